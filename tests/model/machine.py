@@ -516,6 +516,22 @@ class Machine:
     def access_interrupt(self, caller, vp):
         return bytes([vp.take_interrupt()])
 
+    # -- Looks --
+
+    def look(self, by, word, *numbers):
+        """The bytes that a look at a VP shows, or None where there is no such VP, SINT or MSR."""
+        part, index = by
+        vp = self.partitions[part].vps.get(index) if part in self.partitions else None
+        if vp is None:
+            return None
+        if word == "pending":
+            return little(sum(1 << vector for vector in vp.pending), 32)
+        if word == "rdmsr":
+            return little(vp.registers[MSRS[numbers[0]]]) if numbers[0] in MSRS else None
+        if numbers[0] >= SINTS:
+            return None
+        return vp.slot(numbers[0]) if word == "slot" else little(vp.flags[numbers[0]], FLAGS // 8)
+
     # -- The table --
 
     def table(self):

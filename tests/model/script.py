@@ -8,6 +8,7 @@ from model.machine import DENIED, FAULT, MORE, BootRefused, Machine
 
 SCRIPT_BYTES, LIST_DIGITS, PHASE_VPS = 1 << 20, 8192, 64
 BOOT = (32, 32, 32, 64, 32)  # bits of each number
+LOOKS = {"slot": (8,), "flags": (8,), "rdmsr": (32,), "pending": ()}
 ACCESSES = {
     "rdmsr": (32,), "wrmsr": (32, 64), "slot": (8,), "clearslot": (8,), "flags": (8,), "clearflag": (8, 16),
     "interrupt": (),
@@ -232,14 +233,16 @@ def run_serial(text, has_table):
 
 
 class Answer(NamedTuple):
-    """What a line of a session is answered: the lines of its events, then its fault or the table's lines."""
+    """What a line of a session is answered: the lines of its events, then its fault or the table's lines, or
+    with --json what a look shows."""
 
     events: list = []
     fault: str | None = None
     table: list | None = None
+    peek: tuple = ()
 
 
-def answers(text):
+def answers(text, is_json=False):
     """What a session answers to each line, and its number of events. After a last line feed comes an empty
     line."""
     reader, run, out = Reader(), None, []
@@ -248,6 +251,8 @@ def answers(text):
         found = ("table",) if words[:1] == ["table"] else reader.read(line)
         if found == ("table",):
             found = table_fault(line, words, run) or found
+        if is_json and words[:1] == ["peek"]:
+            found = look(line, words, run)
         answer = Answer()
         if isinstance(found, str):
             answer = Answer(fault=found)
@@ -257,6 +262,8 @@ def answers(text):
             run.is_full = False
         elif found == ("table",):
             answer = Answer(table=list(run.machine.table()))
+        elif found and found[0] == "peek":
+            answer = Answer(peek=found[1:])
         elif found and found[0] == "boot":
             try:
                 run, reader.is_booted = Run(found[1:]), True
@@ -277,13 +284,15 @@ def serve(text):
 
 def serve_json(text):
     """What `serve --json` tells of them."""
-    told, events = answers(text)
+    told, events = answers(text, is_json=True)
     if not text or text.endswith("\n"):
         told.pop()
     out = [{"program": "hvpm", "version": "0.1.0"}]
     for at, answer in enumerate(told, 1):
-        table = {} if answer.table is None else {"table": joined(answer.table)}
-        out.append({"line": at, "events": answer.events, "fault": answer.fault, **table})
+        shown = {} if answer.table is None else {"table": joined(answer.table)}
+        if answer.peek:
+            shown["peek"] = answer.peek[0]
+        out.append({"line": at, "events": answer.events, "fault": answer.fault, **shown})
     out.append({"end": True, "events": events})
     return Told(joined(json.dumps(line, separators=(",", ":")) for line in out), "", 0)
 
@@ -295,3 +304,24 @@ def table_fault(line, words, run):
     if run is None:
         return "no boot"
     return "word count" if len(words) > 1 else None
+
+
+def look(line, words, run):
+    """The fault of a line `peek`, or that word with the bytes that it shows, or None for none."""
+    if not re.fullmatch(r"[ -~]*", line):
+        return "bad byte"
+    if run is None:
+        return "no boot"
+    by = processor(words[1]) if len(words) > 1 else None
+    if by is None:
+        return "bad processor"
+    if len(words) < 3 or words[2] not in LOOKS:
+        return "unknown word"
+    bits = LOOKS[words[2]]
+    if len(words) != 3 + len(bits):
+        return "word count"
+    values = numbers(words[3:], bits)
+    if isinstance(values, str):
+        return values
+    seen = run.machine.look(by, words[2], *values)
+    return ("peek", None if seen is None else seen.hex())

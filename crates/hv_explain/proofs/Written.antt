@@ -1,6 +1,6 @@
 -- Lines that follow one another.
-use Rattle.std.proofs.Common.{◌≡◌, ℕ, ◌+◌, List, [], ◌∷◌, ◌++◌, length, refl, sym, ap, ◌∙◌, subst, arith, append_assoc, append-nil, length-append, Option, Result, Ok, Err, OnOk, codes, decimal}
-use Rattle.std.proofs.Common.{Global}
+use Rattle.std.proofs.Common.{◌≡◌, ℕ, ◌+◌, List, [], ◌∷◌, ◌++◌, length, refl, sym, ap, ◌∙◌, subst, arith, append_assoc, append-nil, length-append, Option, Some, Result, Ok, Err, OnOk, codes, decimal}
+use Rattle.std.proofs.Common.{Global, IfSome}
 use Rattle.std.specs.Io.KnownBytes.{Appends}
 use Rattle.std.proofs.KnownBytes.{Appends-trans}
 use Rattle.hv_effect.specs.Effect.{Tells}
@@ -16,7 +16,7 @@ use Rattle.hv_policy.specs.declared.config.Config.{Config}
 use Rattle.hv_policy.specs.declared.event.Action.{Action}
 use Rattle.hv_policy.specs.declared.event.Caller.{Caller}
 use Rattle.hv_policy.specs.declared.reply.Reply.{Reply}
-use Rattle.hv_explain.specs.Written.{AreTold, HasHappened, HasPut, HasWritten, HasWrittenOne, Telling, entry_of, head_text, state_after}
+use Rattle.hv_explain.specs.Written.{AreTold, HasHappened, HasPut, HasWritten, HasWrittenOne, IsExplanation, Telling, entry_of, head_text, last_of, state_after}
 use Rattle.hv_words.specs.Words.{IsPlain}
 
 told_append : (tells : Telling) (config : Config) (past xs ys : List (Entry Global)) (s t : List ℕ) → AreTold tells config past xs s → AreTold tells config (past ++ xs) ys t
@@ -63,13 +63,21 @@ ok_then (Err error) P Q holds then = tt
 
 -- the line of an explanation was written
 pub line_put : {T E : Type 0} (r : Result T E) (u v : Option (List ℕ)) (number : ℕ) (by : Caller) (words : List ℕ) → IsPlain words → OnOk r (Appends u v (head_text number by ++ words ++ codes "\n"))
-    → OnOk r (HasPut (λ text. (own : List ℕ) × IsPlain own × (text ≡ head_text number by ++ own ++ codes "\n")) u v)
+    → OnOk r (HasPut (IsExplanation number by) u v)
 line_put (Ok value) u v number by words plain wrote = record {
   text = head_text number by ++ words ++ codes "\n";
   kind = (words, plain, refl);
   wrote = wrote;
 }
 line_put (Err error) u v number by words plain wrote = tt
+
+-- of the last event
+pub last_put : {T E : Type 0} (r : Result T E) (u v : Option (List ℕ)) (history : List (Entry Global)) (number : ℕ) (last : Entry Global) → last_of history ≡ Some last → number ≡ length history
+    → OnOk r (HasPut (IsExplanation number last.event.by) u v) → OnOk r (IfSome (last_of history) (λ e. HasPut (IsExplanation (length history) e.event.by) u v))
+last_put (Ok value) u v history number last is counted put =
+    subst (λ (o : Option (Entry Global)). IfSome o (λ e. HasPut (IsExplanation (length history) e.event.by) u v)) (sym is)
+    (subst (λ (n : ℕ). HasPut (IsExplanation n last.event.by) u v) counted put)
+last_put (Err error) u v history number last is counted put = tt
 
 -- an event was taken, whose effect is that of its step
 pub happened : (by : Caller) (own what : Action Global) (told reply : Reply) (effect : Effect) (old new : Kept Global) → own ≡ what → reply ≡ told → IsRun old

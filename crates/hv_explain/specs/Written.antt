@@ -1,6 +1,6 @@
 -- What is told of a run's events, one after another.
-use Rattle.std.specs.Prelude.{ℕ, ◌≡◌, ◌+◌, List, [], ◌∷◌, ◌++◌, length, codes, decimal, All, Option, IfSome}
-use Rattle.std.specs.Prelude.{IfNone, Ok}
+use Rattle.std.specs.Prelude.{ℕ, ◌≡◌, ◌+◌, ◌-◌, List, [], ◌∷◌, ◌++◌, length, codes, decimal, All, Option}
+use Rattle.std.specs.Prelude.{IfNone, IfSome, Ok, slice_get}
 use Rattle.std.specs.Io.KnownBytes.{Appends}
 use Rattle.std.specs.declared.alloc.Global.{Global}
 use Rattle.hv_abi.specs.declared.frame.Frame.{Frame}
@@ -33,9 +33,16 @@ unfoldable pub head_text : ℕ → Caller → List ℕ
 head_text number by = decimal number ++ codes " " ++ caller_text by ++ codes " "
 
 -- an explanation is a line: its start, words without a line feed, and a line feed
+abbrev pub IsExplanation : ℕ → Caller → List ℕ → Type 0
+IsExplanation number by text = (words : List ℕ) × IsPlain words ×
+    (text ≡ head_text number by ++ words ++ codes "\n")
+
 abbrev pub explains : Telling
-explains number e effect text = (words : List ℕ) × IsPlain words ×
-    (text ≡ head_text number e.event.by ++ words ++ codes "\n")
+explains number e effect text = IsExplanation number e.event.by text
+
+-- the last of these events, if there is one
+abbrev pub last_of : List (Entry Global) → Option (Entry Global)
+last_of entries = slice_get entries (length entries - 1)
 
 -- the flat machine after these events from boot
 abbrev pub state_after : Config → List (Entry Global) → Flat

@@ -2,7 +2,7 @@
 ghost use Rattle.std.specs.Prelude.{◌++◌, codes, decimal, OnOk};
 ghost use Rattle.std.specs.Io.KnownBytes.{Appends};
 ghost use Rattle.hv_words.specs.Words.{IsPlain};
-ghost use Rattle.hv_explain.specs.Written.{HasPut, entry_of, explains, head_text};
+ghost use Rattle.hv_explain.specs.Written.{HasPut, IsExplanation, entry_of, explains, head_text};
 
 use crate::teller::Teller;
 use hv_effect::Effect;
@@ -43,10 +43,25 @@ impl Teller for Explainer {
         _effect: &Effect,
         out: &mut W,
     ) -> io::Result<()> {
-        self.room.clear();
-        push_event(&mut self.room, kept.machine().tree(), by, what, reply);
-        put_line(out, number, by, &self.room)
+        put_event(&mut self.room, kept, number, by, what, reply, out)
     }
+}
+
+// Writes the line of an event. The machine is that after the event. The words are built in `room`.
+pub(crate) fn put_event<W: Write>(
+    room: &mut Words,
+    kept: &Kept<Global>,
+    number: u64,
+    by: Caller,
+    what: &Action<Global>,
+    reply: &Reply,
+    out: &mut W,
+) -> io::Result<()>
+    ensures { OnOk result (HasPut (IsExplanation number by) (W.contents out.old) (W.contents out.new)) }
+{
+    room.clear();
+    push_event(room, kept.machine().tree(), by, what, reply);
+    put_line(out, number, by, room)
 }
 
 // Writes the line of an event: its number, its processor and these words.

@@ -10,15 +10,18 @@
 //! A [`Teller`] decides what is written about an event. It gets the event's effect, which is that of its
 //! step. [`Explainer`] writes the words, and other crates have tellers of their own. [`explain_with`] runs a
 //! script with any teller. [`explain_event`] takes one event, for callers that take events in another order.
+//! [`explain_last`] explains the last event of a history that was taken before.
 #![tactic(auto)]
 
 mod explainer;
+mod last;
 mod line;
 mod run;
 mod script;
 mod teller;
 
 pub use explainer::Explainer;
+pub use last::explain_last;
 pub use line::explain_event;
 pub use script::{explain_text, explain_with};
 pub use teller::Teller;

@@ -12,11 +12,12 @@ use hv_phases::RunError;
 use hv_policy::{Action, Caller, Event, Output, Reply};
 use hv_run::{Exit, Failure};
 use std::alloc::Global;
-use std::io::Write;
+use std::io::{ErrorKind, Write};
 
 /// Takes an event, lets the teller write about it, and returns its reply.
 ///
-/// `Err` if the host refuses the event, which then changes nothing, or if the text can't be written.
+/// `Err` if the host refuses the event, which then changes nothing, if there is no memory for the text, or if
+/// it can't be written.
 pub fn explain_event<T: Teller, W: Write>(
     kept: &mut Kept<Global>,
     by: Caller,
@@ -35,6 +36,7 @@ pub fn explain_event<T: Teller, W: Write>(
     let number = kept.history().len() as u64;
     match teller.tell(kept, number, by, what, &reply, &effect, out) {
         Ok(()) => Ok(reply),
+        Err(error) if error.kind() == ErrorKind::OutOfMemory => Err(Failure::Memory),
         Err(_) => Err(Failure::Write),
     }
 }

@@ -20,13 +20,13 @@ use Rattle.hv_script.specs.declared.fault.FaultKind.TheVariants as kind
 use Rattle.hv_script.specs.declared.line.Line.{Line}
 use Rattle.hv_serve.proofs.Law.{done-nothing}
 use Rattle.hv_serve.specs.Acts.{HasActed, WasStopped}
-use Rattle.hv_serve.specs.Bench.{HasBecome, HasTaken, IsBench, IsOutcomeOf, StandsFor, reads}
-use Rattle.hv_serve.specs.Meant.{Asks, Meant, Reads}
+use Rattle.hv_serve.specs.Bench.{AsksFor, HasBecome, HasTaken, IsBench, IsOutcomeOf, StandsFor, reads}
+use Rattle.hv_serve.specs.Meant.{Meant, Reads}
 use Rattle.hv_serve.specs.Outcome.{outcome_of_boot}
-use Rattle.hv_serve.specs.Session.{HasCome, HasDone, HasStopped, Served, read_of}
+use Rattle.hv_serve.specs.Session.{Becomes, HasCome, HasDone, HasStopped, Served, read_of}
 use Rattle.hv_serve.specs.declared.bench.Bench.{Bench}
 use Rattle.hv_serve.specs.declared.outcome.Outcome.{Outcome}
-use Rattle.hv_serve.specs.declared.outcome.Outcome.TheVariants.{Done, Table, Fault, Boot, Host}
+use Rattle.hv_serve.specs.declared.outcome.Outcome.TheVariants.{Done, Table, Peek, Explain, Fault, Boot, Host}
 
 come_nothing : (bench : Option Bench) (before : Option Served) → StandsFor bench before → HasCome before before
 come_nothing None None stands = tt
@@ -44,12 +44,20 @@ is_booted None (Some served) stands = absurd stands
 is_booted (Some bench) None stands = absurd stands
 is_booted (Some bench) (Some served) stands = refl
 
--- a line that asks for the table
-pub took_table : (bench : Option Bench) (before : Option Served) (says line : Result Meant FaultKind) (result : Result Outcome FaultKind) → StandsFor bench before → says ≡ line
-    → MatchResult result (λ outcome. (outcome ≡ Table) × (line ≡ Ok Asks)) (λ kind. line ≡ Err kind) → HasTaken before says bench result
-took_table bench before says line (Ok outcome) stands is told =
-    subst (λ (o : Outcome). HasBecome before says o bench) (sym told.0) (record { after = before; stands = stands; becomes = (is ∙ told.1, refl) })
-took_table bench before says line (Err kind) stands is told = (stands, λ _. is ∙ told)
+-- a line that asks for something
+asked_becomes : (before : Option Served) (says : Result Meant FaultKind) (outcome : Outcome) → AsksFor outcome says → Becomes before says outcome before
+asked_becomes before says Done asks = absurd asks
+asked_becomes before says Table asks = (asks, refl)
+asked_becomes before says (Peek peek) asks = (asks, refl)
+asked_becomes before says Explain asks = (asks, refl)
+asked_becomes before says (Fault kind) asks = absurd asks
+asked_becomes before says (Boot why) asks = absurd asks
+asked_becomes before says (Host why) asks = absurd asks
+
+pub took_asked : (bench : Option Bench) (before : Option Served) (says : Result Meant FaultKind) (result : Result Outcome FaultKind) → StandsFor bench before
+    → MatchResult result (λ outcome. AsksFor outcome says) (λ kind. says ≡ Err kind) → HasTaken before says bench result
+took_asked bench before says (Ok outcome) stands told = record { after = before; stands = stands; becomes = asked_becomes before says outcome told }
+took_asked bench before says (Err kind) stands told = (stands, λ _. told)
 
 -- the first line boots a machine
 first_says : (words : List (List ℕ)) (r : Result BootLine FaultKind) → begins_with words (codes "boot") ≡ true → boot_of words ≡ r
@@ -247,6 +255,8 @@ module _ (old new : Bench) (served : Served) (words : List (List ℕ)) (by : Cal
       let from : HasActed by what served.kept new.kept = subst (λ (k : Kept Global). HasActed by what k new.kept) is.kept acted in
       record { after = Some after; stands = stands acted.run; becomes = (says, done from) }
   performed Table acted = absurd acted
+  performed (Peek peek) acted = absurd acted
+  performed Explain acted = absurd acted
   performed (Fault kind) acted = absurd acted
   performed (Boot why) acted = absurd acted
   performed (Host why) stop =

@@ -25,36 +25,56 @@ use Rattle.hv_serve.proofs.Lines.{IsOne, split_joined}
 use Rattle.hv_serve.proofs.Order.{order-append, run_in_order}
 use Rattle.hv_serve.proofs.Texts.{audited, drop_front, entries-append}
 use Rattle.hv_serve.specs.Law.{IsServed, done_in, is_done, script_in, told_in}
-use Rattle.hv_serve.specs.Meant.{Asks, Meant, Reads, asks_table, meant, table_line}
+use Rattle.hv_serve.specs.Meant.{Asks, Explains, Meant, Peeks, Reads, meaning, meant, request_by, request_line}
+use Rattle.hv_serve.specs.Peek.{peek_of}
 use Rattle.hv_serve.specs.Session.{AreTurns, Becomes, HasCome, HasDone, IsBooted, IsTurn, Served, Turn, answer_of, answers_in, end_text, history_of, kept_of, lines_in, new_text, read_of}
+use Rattle.hv_serve.specs.declared.form.Form.{Form}
 use Rattle.hv_serve.specs.declared.form.Form.TheVariants.{Text}
 use Rattle.hv_serve.specs.declared.outcome.Outcome.{Outcome}
-use Rattle.hv_serve.specs.declared.outcome.Outcome.TheVariants.{Done, Table, Fault, Boot, Host}
+use Rattle.hv_serve.specs.declared.outcome.Outcome.TheVariants.{Done, Table, Peek, Explain, Fault, Boot, Host}
+use Rattle.hv_serve.specs.declared.peek.Peek.{Peek as Looking}
+use Rattle.hv_serve.specs.declared.request.Request.{Request}
+use Rattle.hv_serve.specs.declared.request.Request.TheVariants as request
 
 -- a line that is read is read as one of a script
 same_reads : {X : Type 0} (a b : Option (SoFar Global)) → ◌≡◌ {A = Result Meant X} (Ok (Reads a)) (Ok (Reads b)) → a ≡ b
 same_reads a b same = cc
 
-by_tests : (t u : Bool) (table : Result Meant FaultKind) (read : Result (Option (SoFar Global)) FaultKind) (after : Option (SoFar Global))
-    → (u ≡ true → table ≢ Ok (Reads after))
-    → cond t (Err Long) (cond u table (read >>= (λ after. Ok (Reads after)))) ≡ Ok (Reads after) → read ≡ Ok after
-by_tests true u table read after other same = absurd (cc)
-by_tests false true table read after other same = absurd (other refl same)
-by_tests false false table (Ok value) after other same = ap Ok (same_reads value after same)
-by_tests false false table (Err kind) after other same = absurd (cc)
-
-no_reading : (before after : Option (SoFar Global)) (words : List (List ℕ)) → table_line before words ≢ Ok (Reads after)
-no_reading None after words = λ same. cc
-no_reading (Some so_far) after words = at (length words == 1)
+-- and what asks for something isn't
+no_request : (request : Request) (before after : Option (SoFar Global)) (words : List (List ℕ)) → request_line request before words ≢ Ok (Reads after)
+no_request request None after words = λ same. cc
+no_request request.Table (Some so_far) after words = at (length words == 1)
   where
     at : (t : Bool) → cond t (Ok Asks) (Err Count) ≢ Ok (Reads after)
     at true = λ same. cc
     at false = λ same. cc
+no_request request.Peek (Some so_far) after words = at (peek_of words)
+  where
+    at : (r : Result Looking FaultKind) → r >>= (λ peek. Ok (Peeks peek)) ≢ Ok (Reads after)
+    at (Ok peek) = λ same. cc
+    at (Err kind) = λ same. cc
+no_request request.Explain (Some so_far) after words = at (length words == 1)
+  where
+    at : (t : Bool) → cond t (Ok Explains) (Err Count) ≢ Ok (Reads after)
+    at true = λ same. cc
+    at false = λ same. cc
 
-pub reads_line : (before after : Option (SoFar Global)) (line : List ℕ) → meant before line ≡ Ok (Reads after) → read_line before line ≡ Ok after
+by_reading : (read : Result (Option (SoFar Global)) FaultKind) (after : Option (SoFar Global)) → read >>= (λ after. Ok (Reads after)) ≡ Ok (Reads after) → read ≡ Ok after
+by_reading (Ok value) after same = ap Ok (same_reads value after same)
+by_reading (Err kind) after same = absurd (cc)
+
+by_request : (request : Option Request) (before after : Option (SoFar Global)) (line : List ℕ) → meaning request before line ≡ Ok (Reads after) → read_line before line ≡ Ok after
+by_request (Some request) before after line same = absurd (no_request request before after (words_of line) same)
+by_request None before after line same = by_reading (read_line before line) after same
+
+by_length : (t : Bool) (request : Option Request) (before after : Option (SoFar Global)) (line : List ℕ) → cond t (Err Long) (meaning request before line) ≡ Ok (Reads after)
+    → read_line before line ≡ Ok after
+by_length true request before after line same = absurd (cc)
+by_length false request before after line same = by_request request before after line same
+
+pub reads_line : (form : Form) (before after : Option (SoFar Global)) (line : List ℕ) → meant form before line ≡ Ok (Reads after) → read_line before line ≡ Ok after
 unfolding meant
-reads_line before after line same =
-    by_tests (nat_lt MOST_BYTES (length line)) (asks_table line) (table_line before (words_of line)) (read_line before line) after (λ _. no_reading before after (words_of line)) same
+reads_line form before after line same = by_length (nat_lt MOST_BYTES (length line)) (request_by form line) before after line same
 
 -- the machine is a run, if there is one
 abbrev pub IsRunOf : Option Served → Type 0
@@ -143,6 +163,8 @@ grown_by (Some a) (Some b) come = (come.own, come.history)
 is_that : (outcome : Outcome) → is_done outcome ≡ true → outcome ≡ Done
 is_that Done is = refl
 is_that Table is = absurd (false≢true is)
+is_that (Peek peek) is = absurd (false≢true is)
+is_that Explain is = absurd (false≢true is)
 is_that (Fault kind) is = absurd (false≢true is)
 is_that (Boot why) is = absurd (false≢true is)
 is_that (Host why) is = absurd (false≢true is)
@@ -151,6 +173,8 @@ is_that (Host why) is = absurd (false≢true is)
 unchanged : (before mid : Option Served) (says : Result Meant FaultKind) (outcome : Outcome) → Becomes before says outcome mid → IsServed outcome → is_done outcome ≡ false → mid ≡ before
 unchanged before mid says Done becomes served is = absurd (false≢true (sym is))
 unchanged before mid says Table becomes served is = becomes.1
+unchanged before mid says (Peek peek) becomes served is = becomes.1
+unchanged before mid says Explain becomes served is = becomes.1
 unchanged before mid says (Fault kind) becomes served is = becomes.1
 unchanged before mid says (Boot why) becomes served is = becomes.1
 unchanged before mid says (Host why) becomes served is = absurd served
@@ -176,19 +200,20 @@ shape : (t : Bool) (turn : Turn) (rest : List Turn) → is_done turn.outcome ≡
 shape t turn rest same = ap (λ (b : Bool). if b then turn ∷ rest else rest) same
 
 -- the answer of a line that is done is the audit's lines of what it adds
-answer_is : (number : ℕ) (before mid : Option Served) (turn : Turn) (own : List (Entry Global)) → turn.answer ≡ answer_of Text number (length (history_of (kept_of before))) turn.outcome (kept_of mid)
+answer_is : (number : ℕ) (before mid : Option Served) (turn : Turn) (own : List (Entry Global)) → turn.answer ≡ answer_of Text number (length (history_of (kept_of before))) turn.outcome
+    (kept_of mid) turn.words
     →
     turn.outcome ≡ Done
     → history_of (kept_of mid) ≡ history_of (kept_of before) ++ own → turn.answer ≡ entries_text (length (history_of (kept_of before)) + 1) own
 answer_is number before mid turn own answer done grown =
     let k = length (history_of (kept_of before)) in
-    answer ∙ ap (λ (o : Outcome). answer_of Text number k o (kept_of mid)) done ∙ append-nil (new_text k (kept_of mid))
+    answer ∙ ap (λ (o : Outcome). answer_of Text number k o (kept_of mid) turn.words) done ∙ append-nil (new_text k (kept_of mid))
     ∙ ap (entries_text (k + 1)) (ap (drop k) grown ∙ drop_front (history_of (kept_of before)) own)
 
 comes-then : (number : ℕ) (before mid after : Option Served) (turn : Turn) (rest : List Turn) → IsTurn Text number before turn mid → turn.outcome ≡ Done → Comes mid rest after
     → Comes before (turn ∷ rest) after
 comes-then number before mid after turn rest is done more =
-    let becomes : Becomes before (meant (read_of before) turn.line) Done mid = subst (λ (o : Outcome). Becomes before (meant (read_of before) turn.line) o mid) done
+    let becomes : Becomes before (meant Text (read_of before) turn.line) Done mid = subst (λ (o : Outcome). Becomes before (meant Text (read_of before) turn.line) o mid) done
     is.becomes in
     let grown = grown_by before mid becomes.1 in
     let first : turn.answer ≡ entries_text (length (history_of (kept_of before)) + 1) grown.0 = answer_is number before mid turn grown.0 is.answer done grown.1 in
@@ -196,7 +221,7 @@ comes-then number before mid after turn rest is done more =
     in
     record {
       read = λ n. ap (λ (r : Result (Option (SoFar Global)) FaultKind). at_line n r >>= (λ after. read_lines (n + 1) after (lines_in rest)))
-          (reads_line (read_of before) (read_of mid) turn.line becomes.0)
+          (reads_line Text (read_of before) (read_of mid) turn.line becomes.0)
           ∙ more.read (n + 1);
       reached = come-then before mid after becomes.1 more.reached;
       own = grown.0 ++ more.own;
@@ -219,12 +244,12 @@ comes number before (turn ∷ turns) after run some all =
     choose : (t : Bool) → is_done turn.outcome ≡ t → (IsRunOf some.0 → Comes some.0 (done_in turns) after) → Comes before (done_in (turn ∷ turns)) after
     choose true same later =
         let done = is_that turn.outcome same in
-        let becomes : Becomes before (meant (read_of before) turn.line) Done some.0 = subst (λ (o : Outcome). Becomes before (meant (read_of before) turn.line) o some.0)
+        let becomes : Becomes before (meant Text (read_of before) turn.line) Done some.0 = subst (λ (o : Outcome). Becomes before (meant Text (read_of before) turn.line) o some.0)
         done some.1.becomes in
         subst (λ (d : List Turn). Comes before d after) (sym (shape true turn (done_in turns) same))
         (comes-then number before some.0 after turn (done_in turns) some.1 done (later (run_of_come before some.0 becomes.1)))
     choose false same later =
-        let still : some.0 ≡ before = unchanged before some.0 (meant (read_of before) turn.line) turn.outcome some.1.becomes (All-head WasServed turn turns all) same in
+        let still : some.0 ≡ before = unchanged before some.0 (meant Text (read_of before) turn.line) turn.outcome some.1.becomes (All-head WasServed turn turns all) same in
         subst (λ (d : List Turn). Comes before d after) (sym (shape false turn (done_in turns) same))
         (subst (λ (b : Option Served). Comes b (done_in turns) after) still (later (subst IsRunOf (sym still) run)))
 
@@ -288,6 +313,8 @@ all_done (turn ∷ turns) all =
 served_if : (outcome : Outcome) → is_done outcome ≡ true → IsServed outcome
 served_if Done is = tt
 served_if Table is = tt
+served_if (Peek peek) is = tt
+served_if Explain is = tt
 served_if (Fault kind) is = tt
 served_if (Boot why) is = tt
 served_if (Host why) is = absurd (false≢true is)

@@ -1,4 +1,5 @@
 pub mod Acts
+pub mod Answered
 pub mod Becoming
 pub mod Benches
 pub mod Law
@@ -8,7 +9,9 @@ pub mod Order
 pub mod Reading
 pub mod Says
 pub mod Sent
+pub mod Showing
 pub mod Strings
 pub mod Takes
 pub mod Texts
 pub mod Turning
+pub mod Vectors

@@ -1,6 +1,6 @@
 -- An answer in JSON is one line.
 use Rattle.std.proofs.Common.{◌≡◌, ◌≢◌, ◌==◌, ◌%◌, ◌/◌, ℕ, zero, suc, ◌+◌, Bool, true, false, not, ◌&&◌, cond, List, [], ◌∷◌, ◌++◌, length, refl, sym, ap, ◌∙◌, subst, arith, append_assoc, codes}
-use Rattle.std.proofs.Common.{decimal, drop, Option, All, nat_lt}
+use Rattle.std.proofs.Common.{decimal, drop, Option, Some, None, All, nat_lt}
 use Rattle.std.proofs.Common.{Global}
 use Rattle.std.specs.Fmt.{digit_glyph, digits, digits_onto}
 use Rattle.std.specs.List.{list_all}
@@ -10,12 +10,12 @@ use Rattle.std.proofs.lemmas.List.Elements.{All-cons, All-nil}
 use Rattle.std.proofs.lemmas.List.Folds.{list_all-append}
 use Rattle.hv_history.specs.declared.entry.Entry.{Entry}
 use Rattle.hv_text.specs.Audit.{entry_text}
-use Rattle.hv_serve.specs.Json.{IsOneLine, all_escaped, escaped, events_value, fault_value, more_events, object_text, string_of, table_member}
+use Rattle.hv_serve.specs.Json.{IsOneLine, all_escaped, escaped, events_value, fault_value, more_events, object_text, shown_member, string_of, text_value}
 use Rattle.hv_serve.specs.Outcome.{why_text}
-use Rattle.hv_serve.specs.Session.{AreTurns, Served, Turn, history_of, kept_of, table_of}
+use Rattle.hv_serve.specs.Session.{AreTurns, Served, Turn, history_of, kept_of, shown_of}
 use Rattle.hv_serve.specs.declared.form.Form.TheVariants.{Json}
 use Rattle.hv_serve.specs.declared.outcome.Outcome.{Outcome}
-use Rattle.hv_serve.specs.declared.outcome.Outcome.TheVariants.{Done, Table, Fault, Boot, Host}
+use Rattle.hv_serve.specs.declared.outcome.Outcome.TheVariants.{Done, Table, Peek, Explain, Fault, Boot, Host}
 
 abbrev in_line : ℕ → Bool
 in_line byte = not (byte == 10)
@@ -97,30 +97,38 @@ events_fit number (e ∷ es) = join (string_of (entry_text number e)) (more_even
 fault_fits : (outcome : Outcome) → Fits (fault_value outcome)
 fault_fits Done = refl
 fault_fits Table = refl
+fault_fits (Peek peek) = refl
+fault_fits Explain = refl
 fault_fits (Fault kind) = string_fits (why_text (Fault kind))
 fault_fits (Boot why) = string_fits (why_text (Boot why))
 fault_fits (Host why) = string_fits (why_text (Host why))
 
-member_fits : (outcome : Outcome) (table : List ℕ) → Fits (table_member outcome table)
-member_fits Done table = refl
-member_fits Table table = join (codes ",\"table\":") (string_of table) refl (string_fits table)
-member_fits (Fault kind) table = refl
-member_fits (Boot why) table = refl
-member_fits (Host why) table = refl
+value_fits : (shown : Option (List ℕ)) → Fits (text_value shown)
+value_fits None = refl
+value_fits (Some text) = string_fits text
 
-object_one : (number : ℕ) (events : List ℕ) (outcome : Outcome) (table : List ℕ) → Fits events → IsOneLine (object_text number events outcome table)
+member_fits : (outcome : Outcome) (shown : Option (List ℕ)) → Fits (shown_member outcome shown)
+member_fits Done shown = refl
+member_fits Table shown = join (codes ",\"table\":") (text_value shown) refl (value_fits shown)
+member_fits (Peek peek) shown = join (codes ",\"peek\":") (text_value shown) refl (value_fits shown)
+member_fits Explain shown = join (codes ",\"explain\":") (text_value shown) refl (value_fits shown)
+member_fits (Fault kind) shown = refl
+member_fits (Boot why) shown = refl
+member_fits (Host why) shown = refl
+
+object_one : (number : ℕ) (events : List ℕ) (outcome : Outcome) (shown : Option (List ℕ)) → Fits events → IsOneLine (object_text number events outcome shown)
 unfolding object_text
-object_one number events outcome table fits =
+object_one number events outcome shown fits =
     let a : List ℕ = codes "{\"line\":" ++ decimal number in
     let b : List ℕ = a ++ codes ",\"events\":[" in
     let c : List ℕ = b ++ events in
     let d : List ℕ = c ++ codes "],\"fault\":" in
     let e : List ℕ = d ++ fault_value outcome in
-    let f : List ℕ = e ++ table_member outcome table in
+    let f : List ℕ = e ++ shown_member outcome shown in
     let a_fits : Fits a = join (codes "{\"line\":") (decimal number) refl (decimal_fits number) in
     let c_fits : Fits c = join b events (join a (codes ",\"events\":[") a_fits refl) fits in
     let e_fits : Fits e = join d (fault_value outcome) (join c (codes "],\"fault\":") c_fits refl) (fault_fits outcome) in
-    let f_fits : Fits f = join e (table_member outcome table) e_fits (member_fits outcome table) in
+    let f_fits : Fits f = join e (shown_member outcome shown) e_fits (member_fits outcome shown) in
     record {
       line = f ++ codes "}";
       is = sym (append_assoc f (codes "}") (codes "\n"));
@@ -135,5 +143,5 @@ answers_one number before (turn ∷ turns) now some =
     let count = length (history_of (kept_of before)) in
     let events : List (Entry Global) = drop count (history_of after) in
     All-cons (λ turn. IsOneLine turn.answer) turn turns
-    (subst IsOneLine (sym some.1.answer) (object_one number (events_value (count + 1) events) turn.outcome (table_of after) (events_fit (count + 1) events)))
+    (subst IsOneLine (sym some.1.answer) (object_one number (events_value (count + 1) events) turn.outcome (shown_of turn.outcome after turn.words) (events_fit (count + 1) events)))
     (answers_one (number + 1) some.0 turns now some.2)

@@ -1,6 +1,6 @@
 -- What a line says, by its words.
-use Rattle.std.proofs.Common.{◌≡◌, ◌≢◌, ◌==◌, ◌≤◌, ◌<◌, ℕ, ◌+◌, suc, Bool, true, false, not, cond, List, [], ◌∷◌, length, take, refl, sym, ap, ◌∙◌, arith, Option, Some, Result, Ok, Err, nat_lt}
-use Rattle.std.proofs.Common.{length-take, ◌&&◌, codes, Global}
+use Rattle.std.proofs.Common.{◌≡◌, ◌≢◌, ◌==◌, ◌≤◌, ◌<◌, ℕ, ◌+◌, suc, Bool, true, false, not, cond, List, [], ◌∷◌, length, take, refl, sym, ap, ◌∙◌, arith, Option, Some, None, Result, Ok, Err, nat_lt}
+use Rattle.std.proofs.Common.{length-take, Global}
 use Rattle.std.specs.List.{position_or_len}
 use Rattle.std.proofs.lemmas.Bool.{false≢true}
 use Rattle.std.proofs.lemmas.Bool.Decides.{nat_tests}
@@ -8,38 +8,48 @@ use Rattle.std.proofs.lemmas.List.Elements.{All-head, All-tail}
 use Rattle.hv_script.specs.Cursor.{line_of, words_read}
 use Rattle.hv_script.specs.Line.{◌>>=◌}
 use Rattle.hv_script.specs.Script.{SoFar, read_line, read_words}
-use Rattle.hv_script.specs.Words.{begins_with, has_good_bytes, is_skipped, words_of}
+use Rattle.hv_script.specs.Words.{has_good_bytes, is_skipped, words_of}
 use Rattle.hv_script.specs.declared.fault.FaultKind.{FaultKind}
 use Rattle.hv_script.specs.declared.fault.FaultKind.TheVariants.{Byte, Long}
 use Rattle.hv_script.specs.declared.script.TheConstants.{MOST_BYTES}
 use Rattle.hv_serve.proofs.Lines.{IsOne}
-use Rattle.hv_serve.specs.Bench.{reads, words_say}
-use Rattle.hv_serve.specs.Meant.{Meant, Reads, asks_table, meant, table_line}
+use Rattle.hv_serve.specs.Bench.{reads, words_by, words_say}
+use Rattle.hv_serve.specs.Meant.{Reads, meaning, meant, request_by, request_of}
+use Rattle.hv_serve.specs.declared.form.Form.{Form}
+use Rattle.hv_serve.specs.declared.request.Request.{Request}
 
 chained : (r : Result (SoFar Global) FaultKind) → (r >>= (λ so_far. Ok (Some so_far))) >>= (λ after. Ok (Reads after)) ≡ reads r
 chained (Ok so_far) = refl
 chained (Err kind) = refl
 
 -- where there are words, the first of them decides
-pub by_first : (before : Option (SoFar Global)) (words : List (List ℕ)) (b : Bool) → (length words == 0) ≡ false → begins_with words (codes "table") ≡ b
-    → words_say before words ≡ cond b (table_line before words) (reads (read_words before words))
-by_first before words b some begins =
-    ap (λ (t : Bool). cond t (Ok (Reads before)) (cond (begins_with words (codes "table")) (table_line before words) (reads (read_words before words)))) some
-    ∙ ap (λ (t : Bool). cond t (table_line before words) (reads (read_words before words))) begins
+pub by_first : (form : Form) (before : Option (SoFar Global)) (words : List (List ℕ)) (request : Option Request) → (length words == 0) ≡ false → request_of form words ≡ request
+    → words_say form before words ≡ words_by request before words
+by_first form before words request some is =
+    ap (λ (t : Bool). cond t (Ok (Reads before)) (words_by (request_of form words) before words)) some ∙ ap (λ (r : Option Request). words_by r before words) is
 
-pub by_none : (before : Option (SoFar Global)) (words : List (List ℕ)) → (length words == 0) ≡ true → words_say before words ≡ Ok (Reads before)
-by_none before words none =
-    ap (λ (t : Bool). cond t (Ok (Reads before)) (cond (begins_with words (codes "table")) (table_line before words) (reads (read_words before words)))) none
+pub by_none : (form : Form) (before : Option (SoFar Global)) (words : List (List ℕ)) → (length words == 0) ≡ true → words_say form before words ≡ Ok (Reads before)
+by_none form before words none = ap (λ (t : Bool). cond t (Ok (Reads before)) (words_by (request_of form words) before words)) none
 
-by_words : (before : Option (SoFar Global)) (words : List (List ℕ)) (s g b : Bool) → is_skipped words ≡ s → begins_with words (codes "table") ≡ b
-    → cond ((not s && g) && b) (table_line before words) ((cond s (Ok before) (cond g (read_words before words >>= (λ so_far. Ok (Some so_far))) (Err Byte))) >>= (λ after. Ok (Reads after)))
-    ≡ cond s (Ok []) (cond g (Ok words) (Err Byte)) >>= (λ words. words_say before words)
-by_words before words true g b is begins = refl
-by_words before words false false b is begins = refl
-by_words before [] false true b is begins = absurd (false≢true (sym is))
-by_words before (word ∷ words) false true b is begins =
+-- a line that is read says what its words say
+by_request : (before : Option (SoFar Global)) (line : List ℕ) (request : Option Request) → read_line before line ≡ read_words before (words_of line) >>= (λ so_far. Ok (Some so_far))
+    → meaning request before line ≡ words_by request before (words_of line)
+by_request before line (Some request) read = refl
+by_request before line None read =
+    ap (λ (r : Result (Option (SoFar Global)) FaultKind). r >>= (λ after. Ok (Reads after))) read ∙ chained (read_words before (words_of line))
+
+-- whether it is skipped, and whether its bytes are good
+by_tests : (form : Form) (before : Option (SoFar Global)) (line : List ℕ) (words : List (List ℕ)) (s g : Bool) → words_of line ≡ words → is_skipped words ≡ s
+    → read_line before line ≡ cond s (Ok before) (cond g (read_words before words >>= (λ so_far. Ok (Some so_far))) (Err Byte))
+    → meaning (cond s None (cond g (request_of form words) None)) before line ≡ cond s (Ok []) (cond g (Ok words) (Err Byte)) >>= (λ words. words_say form before words)
+by_tests form before line words true g are is read = ap (λ (r : Result (Option (SoFar Global)) FaultKind). r >>= (λ after. Ok (Reads after))) read
+by_tests form before line words false false are is read = ap (λ (r : Result (Option (SoFar Global)) FaultKind). r >>= (λ after. Ok (Reads after))) read
+by_tests form before line [] false true are is read = absurd (false≢true (sym is))
+by_tests form before line (word ∷ words) false true are is read =
     let some : (length (word ∷ words) == 0) ≡ false = grind (arith, nat_tests) in
-    ap (λ (r : Result Meant FaultKind). cond b (table_line before (word ∷ words)) r) (chained (read_words before (word ∷ words))) ∙ sym (by_first before (word ∷ words) b some begins)
+    let request = request_of form (word ∷ words) in
+    by_request before line request (read ∙ ap (λ (ws : List (List ℕ)). read_words before ws >>= (λ so_far. Ok (Some so_far))) (sym are))
+    ∙ ap (λ (ws : List (List ℕ)). words_by request before ws) are ∙ sym (by_first form before (word ∷ words) request some refl)
 
 not_long : (n : ℕ) → n ≤ MOST_BYTES → nat_lt MOST_BYTES n ≡ false
 not_long n most = grind (arith, nat_tests)
@@ -48,17 +58,16 @@ too_long : (n : ℕ) → MOST_BYTES < n → nat_lt MOST_BYTES n ≡ true
 too_long n more = grind (arith, nat_tests)
 
 -- a line is cut, and its words say what it says
-pub cut_says : (before : Option (SoFar Global)) (line : List ℕ) → length line ≤ MOST_BYTES → meant before line ≡ words_read line >>= (λ words. words_say before words)
+pub cut_says : (form : Form) (before : Option (SoFar Global)) (line : List ℕ) → length line ≤ MOST_BYTES → meant form before line ≡ words_read line >>= (λ words. words_say form before words)
 unfolding meant read_line
-cut_says before line most =
-    ap (λ (t : Bool). cond t (Err Long) (cond (asks_table line) (table_line before (words_of line)) (read_line before line >>= (λ after. Ok (Reads after))))) (not_long (length line) most)
-    ∙ by_words before (words_of line) (is_skipped (words_of line)) (has_good_bytes line) (begins_with (words_of line) (codes "table")) refl refl
+cut_says form before line most =
+    ap (λ (t : Bool). cond t (Err Long) (meaning (request_by form line) before line)) (not_long (length line) most)
+    ∙ by_tests form before line (words_of line) (is_skipped (words_of line)) (has_good_bytes line) refl refl refl
 
 -- one that is longer than any script isn't
-pub long_says : (before : Option (SoFar Global)) (line : List ℕ) → MOST_BYTES < length line → meant before line ≡ Err Long
+pub long_says : (form : Form) (before : Option (SoFar Global)) (line : List ℕ) → MOST_BYTES < length line → meant form before line ≡ Err Long
 unfolding meant
-long_says before line more =
-    ap (λ (t : Bool). cond t (Err Long) (cond (asks_table line) (table_line before (words_of line)) (read_line before line >>= (λ after. Ok (Reads after))))) (too_long (length line) more)
+long_says form before line more = ap (λ (t : Bool). cond t (Err Long) (meaning (request_by form line) before line)) (too_long (length line) more)
 
 pub line_shorter : (text : List ℕ) → length (line_of text) ≤ length text
 line_shorter text = omega (arith, length-take (position_or_len (λ byte. byte == 10) text) text)

@@ -1,13 +1,11 @@
 -- The strings of events, and their bytes.
-use Rattle.std.proofs.Common.{◌≡◌, ◌==◌, ◌≤◌, ◌<◌, ◌-◌, ℕ, zero, suc, ◌+◌, Bool, false, if◌then◌else◌, List, [], ◌∷◌, ◌++◌, length, refl, sym, ap, ◌∙◌, arith, append-nil, append_assoc, codes}
+use Rattle.std.proofs.Common.{◌≡◌, ◌==◌, ◌≤◌, ◌<◌, ◌-◌, ℕ, zero, suc, ◌+◌, Bool, false, if◌then◌else◌, List, [], ◌∷◌, ◌++◌, length, sym, ap, ◌∙◌, arith, append-nil, append_assoc, codes}
 use Rattle.std.proofs.Common.{drop, take, length-drop}
 use Rattle.std.proofs.Common.{Some, get_or, slice_get, take_all, Global}
 use Rattle.std.proofs.lemmas.Bool.Decides.{nat_tests}
 use Rattle.hv_history.specs.declared.entry.Entry.{Entry}
 use Rattle.hv_text.specs.Audit.{entry_text}
-use Rattle.hv_serve.specs.Json.{all_escaped, escaped, events_value, more_events, object_text, string_of}
-use Rattle.hv_serve.specs.declared.outcome.Outcome.{Outcome}
-use Rattle.hv_serve.specs.declared.outcome.Outcome.TheVariants.{Done, Table, Fault, Boot, Host}
+use Rattle.hv_serve.specs.Json.{all_escaped, escaped, events_value, more_events, string_of}
 use Rattle.hv_serve.proofs.Texts.{get_drop}
 
 -- the string of an event, after a comma unless it is the first
@@ -83,13 +81,3 @@ escaped_more (b ∷ text) (suc k) less =
     ap (λ (m : ℕ). all_escaped (take m (b ∷ text))) one
     ∙ ap (λ (l : List ℕ). escaped b ++ l) (escaped_more text k (omega arith))
     ∙ sym (append_assoc (escaped b) (all_escaped (take k text)) (escaped (get_or text k 0)))
-
--- the table counts only where it is asked for
-pub same_object : (number : ℕ) (events : List ℕ) (outcome : Outcome) (table other : List ℕ) → (outcome ≡ Table → table ≡ other)
-    → object_text number events outcome table ≡ object_text number events outcome other
-unfolding object_text
-same_object number events Done table other same = refl
-same_object number events Table table other same = ap (λ (t : List ℕ). object_text number events Table t) (same refl)
-same_object number events (Fault kind) table other same = refl
-same_object number events (Boot why) table other same = refl
-same_object number events (Host why) table other same = refl

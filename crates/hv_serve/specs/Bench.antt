@@ -1,6 +1,7 @@
 -- What a booted machine and its phase stand for. Only contracts of private functions cite these words.
-use Rattle.std.specs.Prelude.{ℕ, ◌≡◌, ◌≢◌, ◌⊎◌, ◌≤◌, ◌==◌, List, length, codes, All, if◌then◌else◌, Option}
+use Rattle.std.specs.Prelude.{ℕ, ◌≡◌, ◌≢◌, ◌⊎◌, ◌≤◌, ◌==◌, List, length, All, if◌then◌else◌, Option}
 use Rattle.std.specs.Prelude.{None, Some, Result, Ok, Err}
+use Rattle.std.specs.Io.KnownBytes.{Appends}
 use Rattle.std.specs.declared.alloc.Global.{Global}
 use Rattle.hv_history.specs.Kept.{IsRun, Kept}
 use Rattle.hv_policy.specs.declared.event.Action.{Action}
@@ -8,16 +9,18 @@ use Rattle.hv_policy.specs.declared.event.Caller.{Caller}
 use Rattle.hv_script.specs.Callers.{callers_of}
 use Rattle.hv_script.specs.Line.{◌>>=◌}
 use Rattle.hv_script.specs.Script.{SoFar, read_words}
-use Rattle.hv_script.specs.Words.{begins_with}
 use Rattle.hv_script.specs.declared.fault.FaultKind.{FaultKind}
 use Rattle.hv_script.specs.declared.fault.FaultKind.TheVariants.{Memory}
 use Rattle.hv_history.specs.declared.kept.HostRefused.TheVariants as host
+use Rattle.hv_words.specs.Words.{IsPlain}
 use Rattle.hv_serve.specs.Acts.{HasActed, WasStopped}
-use Rattle.hv_serve.specs.Meant.{Meant, Reads, table_line}
-use Rattle.hv_serve.specs.Session.{Becomes, Served}
+use Rattle.hv_serve.specs.Meant.{Asks, Explains, Meant, Peeks, Reads, request_line, request_of}
+use Rattle.hv_serve.specs.Session.{Becomes, Served, answer_of, shown_of}
 use Rattle.hv_serve.specs.declared.bench.Bench.{Bench}
+use Rattle.hv_serve.specs.declared.form.Form.{Form}
 use Rattle.hv_serve.specs.declared.outcome.Outcome.{Outcome}
-use Rattle.hv_serve.specs.declared.outcome.Outcome.TheVariants.{Done, Table, Fault, Boot, Host}
+use Rattle.hv_serve.specs.declared.outcome.Outcome.TheVariants.{Done, Table, Peek, Explain, Fault, Boot, Host}
+use Rattle.hv_serve.specs.declared.request.Request.{Request}
 
 -- the machine, if there is one
 abbrev pub kept_in : Option Bench → Option (Kept Global)
@@ -42,12 +45,15 @@ StandsFor (Some bench) (Some served) = IsBench bench served
 abbrev pub reads : Result (SoFar Global) FaultKind → Result Meant FaultKind
 reads read = read >>= (λ so_far. Ok (Reads (Some so_far)))
 
+-- the meaning of words that ask for this, or are those of a script's line
+abbrev pub words_by : Option Request → Option (SoFar Global) → List (List ℕ) → Result Meant FaultKind
+words_by (Some request) before words = request_line request before words
+words_by None before words = reads (read_words before words)
+
 -- the meaning of a line's words, after what was read before
-abbrev pub words_say : Option (SoFar Global) → List (List ℕ) → Result Meant FaultKind
-words_say before words =
-    if length words == 0 then Ok (Reads before)
-    else (if begins_with words (codes "table") then table_line before words else reads
-    (read_words before words))
+abbrev pub words_say : Form → Option (SoFar Global) → List (List ℕ) → Result Meant FaultKind
+words_say form before words =
+    if length words == 0 then Ok (Reads before) else words_by (request_of form words) before words
 
 -- after a line with this meaning and this outcome, the bench stands for the new state of the session
 pub record HasBecome (before : Option Served) (says : Result Meant FaultKind) (outcome : Outcome)
@@ -66,10 +72,46 @@ HasTaken before says bench (Err kind) = StandsFor bench before × (kind ≢ Memo
 abbrev pub IsOutcomeOf : Caller → Action Global → Kept Global → Kept Global → Outcome → Type 0
 IsOutcomeOf by what old new Done = HasActed by what old new
 IsOutcomeOf by what old new Table = ⊥
+IsOutcomeOf by what old new (Peek peek) = ⊥
+IsOutcomeOf by what old new Explain = ⊥
 IsOutcomeOf by what old new (Fault kind) = ⊥
 IsOutcomeOf by what old new (Boot why) = ⊥
 IsOutcomeOf by what old new (Host why) = WasStopped by what why old new
 
--- the outcome that is reported: the line's own, or out of memory for a table
+-- the outcome of a line that asks for something, and the line's meaning
+abbrev pub AsksFor : Outcome → Result Meant FaultKind → Type 0
+AsksFor Done says = ⊥
+AsksFor Table says = says ≡ Ok Asks
+AsksFor (Peek peek) says = says ≡ Ok (Peeks peek)
+AsksFor Explain says = says ≡ Ok Explains
+AsksFor (Fault kind) says = ⊥
+AsksFor (Boot why) says = ⊥
+AsksFor (Host why) says = ⊥
+
+-- the line asks for something
+abbrev pub IsRequest : Outcome → Type 0
+IsRequest Done = ⊥
+IsRequest Table = Unit {0}
+IsRequest (Peek peek) = Unit {0}
+IsRequest Explain = Unit {0}
+IsRequest (Fault kind) = ⊥
+IsRequest (Boot why) = ⊥
+IsRequest (Host why) = ⊥
+
+-- the outcome that is reported: the line's own, or out of memory for what it asks for
 abbrev pub IsToldAs : Outcome → Outcome → Type 0
-IsToldAs outcome told = (told ≡ outcome) ⊎ ((outcome ≡ Table) × (told ≡ Host host.Memory))
+IsToldAs outcome told = (told ≡ outcome) ⊎ (IsRequest outcome × (told ≡ Host host.Memory))
+
+-- this is what a line with this outcome shows
+pub record Shows (outcome : Outcome) (now : Option (Kept Global)) (shown : Option (List ℕ)) : Type 0 where
+  pub words : List ℕ
+  pub plain : IsPlain words
+  pub is : shown ≡ shown_of outcome now words
+
+-- the writer gets the answer to the line with this number. Its outcome is reported as `told`
+pub record HasAnswered (form : Form) (number before : ℕ) (outcome told : Outcome) (now : Option (Kept Global))
+    (old new : Option (List ℕ)) : Type 0 where
+  pub told_as : IsToldAs outcome told
+  pub words : List ℕ
+  pub plain : IsPlain words
+  pub wrote : Appends old new (answer_of form number before told now words)

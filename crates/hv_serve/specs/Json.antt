@@ -1,10 +1,11 @@
 -- The answer to a line in JSON.
 use Rattle.std.specs.Prelude.{ℕ, ◌≡◌, ◌≢◌, ◌==◌, ◌+◌, ◌++◌, List, [], ◌∷◌, All, if◌then◌else◌, codes, decimal}
+use Rattle.std.specs.Prelude.{Option, None, Some}
 use Rattle.hv_history.specs.declared.entry.Entry.{Entry}
 use Rattle.hv_text.specs.Audit.{entry_text}
 use Rattle.hv_serve.specs.Outcome.{why_text}
 use Rattle.hv_serve.specs.declared.outcome.Outcome.{Outcome}
-use Rattle.hv_serve.specs.declared.outcome.Outcome.TheVariants.{Done, Table, Fault, Boot, Host}
+use Rattle.hv_serve.specs.declared.outcome.Outcome.TheVariants.{Done, Table, Peek, Explain, Fault, Boot, Host}
 
 -- a byte in a string: a line feed, a quotation mark and a backslash are escaped
 abbrev pub escaped : ℕ → List ℕ
@@ -36,23 +37,32 @@ events_value number (entry ∷ entries) =
 abbrev pub fault_value : Outcome → List ℕ
 fault_value Done = codes "null"
 fault_value Table = codes "null"
+fault_value (Peek peek) = codes "null"
+fault_value Explain = codes "null"
 fault_value (Fault kind) = string_of (why_text (Fault kind))
 fault_value (Boot why) = string_of (why_text (Boot why))
 fault_value (Host why) = string_of (why_text (Host why))
 
--- the member for the table, if the line asks for it
-abbrev pub table_member : Outcome → List ℕ → List ℕ
-table_member Done table = []
-table_member Table table = codes ",\"table\":" ++ string_of table
-table_member (Fault kind) table = []
-table_member (Boot why) table = []
-table_member (Host why) table = []
+-- a text as a string, or null if there is none
+abbrev pub text_value : Option (List ℕ) → List ℕ
+text_value None = codes "null"
+text_value (Some text) = string_of text
 
--- the object that answers the line with this number, with its events, its outcome and the table
-unfoldable pub object_text : ℕ → List ℕ → Outcome → List ℕ → List ℕ
-object_text number events outcome table =
+-- the member for what the line asks for, if it asks for something
+abbrev pub shown_member : Outcome → Option (List ℕ) → List ℕ
+shown_member Done shown = []
+shown_member Table shown = codes ",\"table\":" ++ text_value shown
+shown_member (Peek peek) shown = codes ",\"peek\":" ++ text_value shown
+shown_member Explain shown = codes ",\"explain\":" ++ text_value shown
+shown_member (Fault kind) shown = []
+shown_member (Boot why) shown = []
+shown_member (Host why) shown = []
+
+-- the object that answers the line with this number, with its events, its outcome and what it shows
+unfoldable pub object_text : ℕ → List ℕ → Outcome → Option (List ℕ) → List ℕ
+object_text number events outcome shown =
     codes "{\"line\":" ++ decimal number ++ codes ",\"events\":[" ++ events ++ codes "],\"fault\":"
-    ++ fault_value outcome ++ table_member outcome table ++ codes "}\n"
+    ++ fault_value outcome ++ shown_member outcome shown ++ codes "}\n"
 
 -- the line before all answers
 abbrev pub greeting_text : List ℕ

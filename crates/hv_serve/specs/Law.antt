@@ -3,11 +3,13 @@ use Rattle.std.specs.Prelude.{ℕ, List, filter, Bool, true, false}
 use Rattle.std.specs.List.{join_with_byte}
 use Rattle.hv_serve.specs.Session.{Turn, answers_in, lines_in}
 use Rattle.hv_serve.specs.declared.outcome.Outcome.{Outcome}
-use Rattle.hv_serve.specs.declared.outcome.Outcome.TheVariants.{Done, Table, Fault, Boot, Host}
+use Rattle.hv_serve.specs.declared.outcome.Outcome.TheVariants.{Done, Table, Peek, Explain, Fault, Boot, Host}
 
 abbrev pub is_done : Outcome → Bool
 is_done Done = true
 is_done Table = false
+is_done (Peek peek) = false
+is_done Explain = false
 is_done (Fault kind) = false
 is_done (Boot why) = false
 is_done (Host why) = false
@@ -16,6 +18,8 @@ is_done (Host why) = false
 abbrev pub IsServed : Outcome → Type 0
 IsServed Done = Unit {0}
 IsServed Table = Unit {0}
+IsServed (Peek peek) = Unit {0}
+IsServed Explain = Unit {0}
 IsServed (Fault kind) = Unit {0}
 IsServed (Boot why) = Unit {0}
 IsServed (Host why) = ⊥

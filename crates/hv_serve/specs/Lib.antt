@@ -5,5 +5,6 @@ pub mod Json
 pub mod Law
 pub mod Meant
 pub mod Outcome
+pub mod Peek
 pub mod Session
 pub mod Turned

@@ -1,5 +1,5 @@
 -- The meaning of a line of a session.
-use Rattle.std.specs.Prelude.{ℕ, ◌==◌, ◌&&◌, not, nat_lt, List, length, codes, if◌then◌else◌, Bool, Option}
+use Rattle.std.specs.Prelude.{ℕ, ◌==◌, nat_lt, List, length, codes, if◌then◌else◌, Option}
 use Rattle.std.specs.Prelude.{Some, None, Result, Ok, Err}
 use Rattle.std.specs.declared.alloc.Global.{Global}
 use Rattle.hv_script.specs.Line.{◌>>=◌}
@@ -8,6 +8,12 @@ use Rattle.hv_script.specs.Words.{begins_with, has_good_bytes, is_skipped, words
 use Rattle.hv_script.specs.declared.fault.FaultKind.{FaultKind}
 use Rattle.hv_script.specs.declared.fault.FaultKind.TheVariants.{Long, NoBoot, Count}
 use Rattle.hv_script.specs.declared.script.TheConstants.{MOST_BYTES}
+use Rattle.hv_serve.specs.Peek.{peek_of}
+use Rattle.hv_serve.specs.declared.form.Form.{Form}
+use Rattle.hv_serve.specs.declared.form.Form.TheVariants.{Text, Json}
+use Rattle.hv_serve.specs.declared.peek.Peek.{Peek}
+use Rattle.hv_serve.specs.declared.request.Request.{Request}
+use Rattle.hv_serve.specs.declared.request.Request.TheVariants as request
 
 -- the meaning of a line
 pub data Meant : Type 0 where
@@ -15,23 +21,53 @@ pub data Meant : Type 0 where
   Reads : Option (SoFar Global) → Meant
   -- a request for the table
   Asks : Meant
+  -- a request for a look at a processor
+  Peeks : Peek → Meant
+  -- a request for the explanation of the last event
+  Explains : Meant
 
--- a line that asks for the table. There is a table once a machine is booted
-abbrev pub table_line : Option (SoFar Global) → List (List ℕ) → Result Meant FaultKind
-table_line None words = Err NoBoot
-table_line (Some so_far) words = if length words == 1 then Ok Asks else Err Count
+-- what a line asks for, by its first word: the table, and in JSON also a look or an explanation
+abbrev pub request_in : Form → List (List ℕ) → Option Request
+request_in Text words = None
+request_in Json words =
+    if begins_with words (codes "peek") then Some request.Peek
+    else (if begins_with words (codes "explain") then Some request.Explain else None)
 
--- the line's first word is `table`. It isn't skipped, and has no bad byte
-abbrev pub asks_table : List ℕ → Bool
-asks_table line = not (is_skipped (words_of line)) && has_good_bytes line && begins_with (words_of line)
-    (codes "table")
+abbrev pub request_of : Form → List (List ℕ) → Option Request
+request_of form words =
+    if begins_with words (codes "table") then Some request.Table else request_in form words
 
--- the meaning of a line after what was read before: its meaning in a script, unless its first word is
--- `table`, or it is longer than any script
-unfoldable pub meant : Option (SoFar Global) → List ℕ → Result Meant FaultKind
-meant before line =
-    if nat_lt MOST_BYTES (length line) then Err Long
-    else (if asks_table line then table_line before (words_of line)
-    else (do
-      after ← read_line before line
-      Ok (Reads after)))
+-- a line of one word
+abbrev pub alone : Meant → List (List ℕ) → Result Meant FaultKind
+alone meaning words = if length words == 1 then Ok meaning else Err Count
+
+-- the meaning of a line that asks for something
+abbrev pub asked : Request → List (List ℕ) → Result Meant FaultKind
+asked request.Table words = alone Asks words
+asked request.Peek words = do
+  peek ← peek_of words
+  Ok (Peeks peek)
+asked request.Explain words = alone Explains words
+
+-- it asks for something once a machine is booted
+abbrev pub request_line : Request → Option (SoFar Global) → List (List ℕ) → Result Meant FaultKind
+request_line request None words = Err NoBoot
+request_line request (Some so_far) words = asked request words
+
+-- what a line asks for. It isn't skipped, and has no bad byte
+abbrev pub request_by : Form → List ℕ → Option Request
+request_by form line = if is_skipped (words_of line) then None
+    else (if has_good_bytes line then request_of form (words_of line) else None)
+
+-- the meaning of a line that asks for this, or is read as one of a script
+abbrev pub meaning : Option Request → Option (SoFar Global) → List ℕ → Result Meant FaultKind
+meaning (Some request) before line = request_line request before (words_of line)
+meaning None before line = do
+  after ← read_line before line
+  Ok (Reads after)
+
+-- the meaning of a line after what was read before: its meaning in a script, unless it asks for something, or
+-- is longer than any script
+unfoldable pub meant : Form → Option (SoFar Global) → List ℕ → Result Meant FaultKind
+meant form before line =
+    if nat_lt MOST_BYTES (length line) then Err Long else meaning (request_by form line) before line

@@ -6,7 +6,7 @@ use Rattle.hv_policy.specs.declared.config.BootRefused.TheVariants as refused
 use Rattle.hv_script.specs.declared.fault.FaultKind.{FaultKind}
 use Rattle.hv_script.specs.declared.fault.FaultKind.TheVariants as kind
 use Rattle.hv_serve.specs.declared.outcome.Outcome.{Outcome}
-use Rattle.hv_serve.specs.declared.outcome.Outcome.TheVariants.{Done, Table, Fault, Boot, Host}
+use Rattle.hv_serve.specs.declared.outcome.Outcome.TheVariants.{Done, Table, Peek, Explain, Fault, Boot, Host}
 
 -- a fault's text
 abbrev pub kind_text : FaultKind → List ℕ
@@ -26,6 +26,8 @@ kind_text kind.Memory = codes "memory"
 abbrev pub why_text : Outcome → List ℕ
 why_text Done = []
 why_text Table = []
+why_text (Peek peek) = []
+why_text Explain = []
 why_text (Fault kind) = kind_text kind
 why_text (Boot refused.Pages) = codes "boot refused: pages"
 why_text (Boot refused.Pool) = codes "boot refused: pool"

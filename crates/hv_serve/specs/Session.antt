@@ -1,9 +1,12 @@
 -- A session: its lines, the outcome of each, and the answer to each.
 use Rattle.std.specs.Prelude.{ℕ, ◌≡◌, ◌≢◌, ◌⊎◌, ◌↔◌, ◌==◌, ◌+◌, ◌++◌, List, [], ◌∷◌, length, drop, map, codes}
 use Rattle.std.specs.Prelude.{decimal, All, IfSome, Option, Some, None, Result, Ok, Err, if◌then◌else◌}
+use Rattle.std.specs.Prelude.{option_and_then, option_map}
 use Rattle.std.specs.Io.KnownBytes.{Appends}
 use Rattle.std.specs.List.{join_with_byte}
 use Rattle.std.specs.declared.alloc.Global.{Global}
+use Rattle.hex.specs.Hex.{encode_lower}
+use Rattle.hv_explain.specs.Written.{head_text, last_of}
 use Rattle.hv_history.specs.Kept.{IsRun, Kept}
 use Rattle.hv_history.specs.Row.{events_of}
 use Rattle.hv_history.specs.declared.entry.Entry.{Entry}
@@ -11,6 +14,7 @@ use Rattle.hv_history.specs.declared.kept.HostRefused.{HostRefused}
 use Rattle.hv_history.specs.declared.kept.HostRefused.TheVariants as host
 use Rattle.hv_phases.specs.Lines.{AreInOrder}
 use Rattle.hv_policy.specs.BootFault.{IsBootRefusal}
+use Rattle.hv_policy.specs.Flat.{Flat}
 use Rattle.hv_policy.specs.Step.{run}
 use Rattle.hv_policy.specs.declared.config.BootRefused.{BootRefused}
 use Rattle.hv_script.specs.Script.{SoFar}
@@ -20,13 +24,15 @@ use Rattle.hv_shared.specs.ByCaller.{receipts_by}
 use Rattle.hv_text.specs.Audit.{entries_text}
 use Rattle.hv_text.specs.Table.{table_text}
 use Rattle.hv_threads.specs.Perform.{IsStopped}
+use Rattle.hv_words.specs.Words.{IsPlain}
 use Rattle.hv_serve.specs.Json.{end_object, events_value, greeting_text, object_text}
-use Rattle.hv_serve.specs.Meant.{Asks, Meant, Reads, meant}
+use Rattle.hv_serve.specs.Meant.{Asks, Explains, Meant, Peeks, Reads, meant}
 use Rattle.hv_serve.specs.Outcome.{fault_text}
+use Rattle.hv_serve.specs.Peek.{seen_of}
 use Rattle.hv_serve.specs.declared.form.Form.{Form}
 use Rattle.hv_serve.specs.declared.form.Form.TheVariants.{Text, Json}
 use Rattle.hv_serve.specs.declared.outcome.Outcome.{Outcome}
-use Rattle.hv_serve.specs.declared.outcome.Outcome.TheVariants.{Done, Table, Fault, Boot, Host}
+use Rattle.hv_serve.specs.declared.outcome.Outcome.TheVariants.{Done, Table, Peek, Explain, Fault, Boot, Host}
 
 -- the state of a session: what its lines said, and the machine with its history
 pub record Served : Type 0 where
@@ -105,26 +111,33 @@ pub record IsRefusedBoot (before : Option Served) (says : Result Meant FaultKind
     pub boots : says ≡ Ok (Reads (Some read))
     pub refused : IsBootRefusal read.boot.config why
 
--- the outcome of a line with this meaning: it is done; it asks for the table; it has a fault, or its boot is
--- refused; or the host refuses it. Only a line that is done, or a processor's line that the host stops,
--- changes anything. Running out of memory may refuse any line
+-- the outcome of a line with this meaning: it is done; it asks for the table, a look or an explanation; it
+-- has a fault, or its boot is refused; or the host refuses it. Only a line that is done, or a processor's
+-- line that the host stops, changes anything. Running out of memory may refuse any line
 abbrev pub Becomes : Option Served → Result Meant FaultKind → Outcome → Option Served → Type 0
 Becomes before says Done after = (says ≡ Ok (Reads (read_of after))) × HasCome before after
 Becomes before says Table after = (says ≡ Ok Asks) × (after ≡ before)
+Becomes before says (Peek peek) after = (says ≡ Ok (Peeks peek)) × (after ≡ before)
+Becomes before says Explain after = (says ≡ Ok Explains) × (after ≡ before)
 Becomes before says (Fault kind) after = (says ≡ Err kind) × (after ≡ before)
 Becomes before says (Boot why) after = IsRefusedBoot before says why × (after ≡ before)
 Becomes before says (Host why) after = ((why ≡ host.Memory) × (after ≡ before)) ⊎ IsStoppedLine before says
     why after
 
--- the table of the state at the end of the history's run
+-- the state at the end of the history's run, and its table
+abbrev pub state_of : Kept Global → Flat
+state_of kept = (run kept.config (events_of kept.history)).0
+
 abbrev pub table_of : Option (Kept Global) → List ℕ
 table_of None = []
-table_of (Some kept) = table_text (run kept.config (events_of kept.history)).0
+table_of (Some kept) = table_text (state_of kept)
 
 -- what follows the audit's lines in the answer to the line with this number
 abbrev pub told_of : ℕ → Outcome → Option (Kept Global) → List ℕ
 told_of number Done now = []
 told_of number Table now = table_of now
+told_of number (Peek peek) now = []
+told_of number Explain now = []
 told_of number (Fault kind) now = fault_text number (Fault kind)
 told_of number (Boot why) now = fault_text number (Boot why)
 told_of number (Host why) now = fault_text number (Host why)
@@ -133,27 +146,48 @@ told_of number (Host why) now = fault_text number (Host why)
 abbrev pub new_text : ℕ → Option (Kept Global) → List ℕ
 new_text before now = entries_text (before + 1) (drop before (history_of now))
 
+-- the explanation of the last of these events, if there is one, with these words and without a line feed
+abbrev pub explained_of : List (Entry Global) → List ℕ → Option (List ℕ)
+explained_of entries words = option_map (λ last. head_text (length entries) last.event.by ++ words)
+    (last_of entries)
+
+-- what a line with this outcome shows of the machine: the table, the bytes of a look, two digits for each, or
+-- an explanation with these words
+abbrev pub shown_in : Outcome → Kept Global → List ℕ → Option (List ℕ)
+shown_in Done kept words = None
+shown_in Table kept words = Some (table_of (Some kept))
+shown_in (Peek peek) kept words = option_map encode_lower (seen_of (state_of kept) peek)
+shown_in Explain kept words = explained_of kept.history words
+shown_in (Fault kind) kept words = None
+shown_in (Boot why) kept words = None
+shown_in (Host why) kept words = None
+
+abbrev pub shown_of : Outcome → Option (Kept Global) → List ℕ → Option (List ℕ)
+shown_of outcome now words = option_and_then (λ kept. shown_in outcome kept words) now
+
 -- the answer to the line with this number, before which this number of events had happened: the audit's lines
 -- of the entries that it adds, then the table that it asks for, or why it wasn't done. In JSON all of them
--- stand in one object
-abbrev pub answer_of : Form → ℕ → ℕ → Outcome → Option (Kept Global) → List ℕ
-answer_of Text number before outcome now = new_text before now ++ told_of number outcome now
-answer_of Json number before outcome now = object_text number
-    (events_value (before + 1) (drop before (history_of now))) outcome (table_of now)
+-- stand in one object, and an explanation has these words
+abbrev pub answer_of : Form → ℕ → ℕ → Outcome → Option (Kept Global) → List ℕ → List ℕ
+answer_of Text number before outcome now words = new_text before now ++ told_of number outcome now
+answer_of Json number before outcome now words = object_text number
+    (events_value (before + 1) (drop before (history_of now))) outcome (shown_of outcome now words)
 
--- a line without its line feed, its outcome, and the answer to it
+-- a line without its line feed, its outcome, the answer to it, and the words of an explanation in the answer
 pub record Turn : Type 0 where
   pub line : List ℕ
   pub outcome : Outcome
   pub answer : List ℕ
+  pub words : List ℕ
 
--- the line with this number, with its outcome and its answer
+-- the line with this number, with its outcome and its answer. Explanations have plain words
 pub record IsTurn (form : Form) (number : ℕ) (before : Option Served) (turn : Turn) (after : Option Served) :
     Type 0 where
   pub one : All (λ byte. byte ≢ 10) turn.line
-  pub becomes : Becomes before (meant (read_of before) turn.line) turn.outcome after
+  pub becomes : Becomes before (meant form (read_of before) turn.line) turn.outcome after
+  pub plain : IsPlain turn.words
   pub answer : turn.answer ≡ answer_of form number (length (history_of (kept_of before))) turn.outcome
-      (kept_of after)
+      (kept_of after) turn.words
 
 -- the lines one after another. The first one has this number
 abbrev pub AreTurns : Form → ℕ → Option Served → List Turn → Option Served → Type 0

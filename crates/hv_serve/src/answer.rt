@@ -6,9 +6,9 @@ ghost use Rattle.hv_defs.specs.declared.sizes.TheConstants.{REPS_END};
 ghost use Rattle.hv_history.specs.History.{entry_by};
 ghost use Rattle.hv_policy.specs.Parts.{next_in, reply_of};
 ghost use Rattle.hv_text.specs.Audit.{entries_text, entry_text};
-ghost use Rattle.hv_serve.specs.Bench.{IsToldAs, kept_in};
+ghost use Rattle.hv_serve.specs.Bench.{HasAnswered, IsToldAs, kept_in};
 ghost use Rattle.hv_serve.specs.Outcome.{fault_text};
-ghost use Rattle.hv_serve.specs.Session.{answer_of, end_text, history_of, new_text, table_of, told_of};
+ghost use Rattle.hv_serve.specs.Session.{end_text, history_of, new_text, table_of, told_of};
 ghost use Rattle.hv_serve.specs.Turned.{closing, greeting};
 ghost use Rattle.hv_serve.specs.declared.form.Form.TheVariants.{Text};
 
@@ -24,7 +24,8 @@ use std::alloc::Global;
 use std::io::Write;
 
 // Writes the answer to the line with this number, before which this number of events had happened, and
-// flushes it. Returns the outcome of the line, which is out of memory if there is no memory for the table.
+// flushes it. Returns the outcome of the line, which is out of memory if there is no memory for what it asks
+// for.
 pub(crate) fn put_answer<W: Write>(
     alloc: Global,
     form: Form,
@@ -34,8 +35,8 @@ pub(crate) fn put_answer<W: Write>(
     number: u64,
     outcome: Outcome,
 ) -> Result<Outcome, Failure>
-    ensures { IfOk result (λ told. IsToldAs outcome told × Appends (W.contents out.old) (W.contents out.new)
-        (answer_of form number before told (kept_in bench.now))) }
+    ensures { IfOk result (λ told. HasAnswered form number before outcome told (kept_in bench.now)
+        (W.contents out.old) (W.contents out.new)) }
 {
     let told = put_in(alloc, form, out, bench, before, number, outcome)?;
     out.flush().map_err(|_| Failure::Write)?;
@@ -51,8 +52,8 @@ fn put_in<W: Write>(
     number: u64,
     outcome: Outcome,
 ) -> Result<Outcome, Failure>
-    ensures { IfOk result (λ told. IsToldAs outcome told × Appends (W.contents out.old) (W.contents out.new)
-        (answer_of form number before told (kept_in bench.now))) }
+    ensures { IfOk result (λ told. HasAnswered form number before outcome told (kept_in bench.now)
+        (W.contents out.old) (W.contents out.new)) }
 {
     match form {
         Form::Text => put_text(out, bench, before, number, outcome),
@@ -67,8 +68,8 @@ fn put_text<W: Write>(
     number: u64,
     outcome: Outcome,
 ) -> Result<Outcome, Failure>
-    ensures { IfOk result (λ told. IsToldAs outcome told × Appends (W.contents out.old) (W.contents out.new)
-        (answer_of Text number before told (kept_in bench.now))) }
+    ensures { IfOk result (λ told. HasAnswered Text number before outcome told (kept_in bench.now)
+        (W.contents out.old) (W.contents out.new)) }
 {
     put_new(out, bench, before)?;
     put_outcome(out, bench, number, outcome)
@@ -157,7 +158,8 @@ fn put_entry<W: Write>(out: &mut W, number: u64, entry: &EntryRef<'_>) -> Result
     put_bytes(out, &buffer[..len])
 }
 
-// Writes what follows the lines of the audit: the table, or why the line wasn't done.
+// Writes what follows the lines of the audit: the table, or why the line wasn't done. In text, no line asks
+// for a look or an explanation.
 fn put_outcome<W: Write>(
     out: &mut W,
     bench: &Option<Bench>,
@@ -168,7 +170,7 @@ fn put_outcome<W: Write>(
         (told_of number told (kept_in bench.now))) }
 {
     match outcome {
-        Outcome::Done => Ok(Outcome::Done),
+        Outcome::Done | Outcome::Peek(_) | Outcome::Explain => Ok(outcome),
         Outcome::Table => put_table(out, bench, number),
         Outcome::Fault(_) | Outcome::Boot(_) | Outcome::Host(_) => put_fault(out, number, outcome),
     }

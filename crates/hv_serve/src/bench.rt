@@ -1,19 +1,21 @@
 // A booted machine, and the effect of its lines.
-ghost use Rattle.std.specs.Prelude.{◌≡◌, ◌≢◌, ◌≤◌, Option, Some, None, IfErr, MatchResult, OnErr, OnOk};
-ghost use Rattle.std.specs.Prelude.{is_some, All, Err, List, Ok, ℕ, length, true, false};
+ghost use Rattle.std.specs.Prelude.{◌≡◌, ◌≢◌, ◌≤◌, Option, Some, None, IfErr, OnErr, OnOk};
+ghost use Rattle.std.specs.Prelude.{All, List, ℕ, length, true, false};
 ghost use Rattle.hv_script.specs.Callers.{have_room, is_among, with_caller};
 ghost use Rattle.hv_script.specs.Cursor.{line_of};
-ghost use Rattle.hv_script.specs.Script.{SoFar, first_line, later_line, phase_line, processor_line};
+ghost use Rattle.hv_script.specs.Script.{first_line, later_line, phase_line, processor_line, read_words};
 ghost use Rattle.hv_script.specs.declared.script.TheConstants.{MOST_BYTES as MOST};
 ghost use Rattle.hv_serve.specs.Acts.{HasTried};
 ghost use Rattle.hv_serve.specs.Bench.{HasBecome, HasTaken, IsBench, IsOutcomeOf, StandsFor, reads};
 ghost use Rattle.hv_serve.specs.Bench.{words_say};
 ghost use Rattle.hv_serve.specs.Input.{AreKept};
-ghost use Rattle.hv_serve.specs.Meant.{Asks, meant, table_line};
+ghost use Rattle.hv_serve.specs.Meant.{meant};
 ghost use Rattle.hv_serve.specs.Session.{Served, read_of};
 
 use crate::calls::act;
+use crate::form::Form;
 use crate::outcome::{Outcome, outcome_of, refused_boot};
+use crate::request::Request;
 use hv_history::Kept;
 use hv_policy::{Action, Caller};
 use hv_script::{CutLine, FaultKind, MOST_PROCESSORS, action, processor, read_boot};
@@ -30,64 +32,68 @@ pub(crate) struct Bench {
 // Does what a line asks for, unless its bytes were lost. Before the boot line there is no machine.
 pub(crate) fn take_line(
     alloc: Global,
+    form: Form,
     bench: &mut Option<Bench>,
     line: &[u8],
     lost: Option<FaultKind>,
 ) -> Outcome
     ensures { (before : Option Served) (bytes : List ℕ) → StandsFor bench.old before
         → All (λ byte. byte ≢ 10) bytes → AreKept bytes line.now lost
-        → HasBecome before (meant (read_of before) bytes) result bench.new }
+        → HasBecome before (meant form (read_of before) bytes) result bench.new }
 {
     match lost {
         Some(kind) => outcome_of(Err(kind)),
-        None => outcome_of(do_line(alloc, bench, line)),
+        None => outcome_of(do_line(alloc, form, bench, line)),
     }
 }
 
 // Does what a line asks for.
-fn do_line(alloc: Global, bench: &mut Option<Bench>, text: &[u8]) -> Result<Outcome, FaultKind>
+fn do_line(
+    alloc: Global,
+    form: Form,
+    bench: &mut Option<Bench>,
+    text: &[u8],
+) -> Result<Outcome, FaultKind>
     ensures { (before : Option Served) → StandsFor bench.old before → length text.now ≤ MOST
-        → HasTaken before (meant (read_of before) (line_of text.now)) bench.new result }
+        → HasTaken before (meant form (read_of before) (line_of text.now)) bench.new result }
 {
     let mut line = CutLine::new();
     line.cut(text)?;
-    do_words(alloc, bench, &line)
+    do_words(alloc, form, bench, &line)
 }
 
 // Does what the words of a line ask for.
 fn do_words(
     alloc: Global,
+    form: Form,
     bench: &mut Option<Bench>,
     line: &CutLine<'_>,
 ) -> Result<Outcome, FaultKind>
     ensures { (before : Option Served) → StandsFor bench.old before
-        → HasTaken before (words_say (read_of before) line.now) bench.new result }
+        → HasTaken before (words_say form (read_of before) line.now) bench.new result }
 {
     if line.words() == 0 {
         return Ok(Outcome::Done);
     }
-    if line.begins_with(b"table".as_slice()) {
-        return table_line(bench.is_some(), line);
+    match Request::of(form, line) {
+        Some(request) => request.read(bench.is_some(), line),
+        None => script_line(alloc, bench, line),
     }
+}
+
+// Handles a line of a script.
+fn script_line(
+    alloc: Global,
+    bench: &mut Option<Bench>,
+    line: &CutLine<'_>,
+) -> Result<Outcome, FaultKind>
+    ensures { (before : Option Served) → StandsFor bench.old before
+        → HasTaken before (reads (read_words (read_of before) line.now)) bench.new result }
+{
     match bench {
         None => boot_line(alloc, bench, line),
         Some(bench) => bench.later_line(alloc, line),
     }
-}
-
-// Handles a line that asks for the table. There is a table once a machine is booted.
-fn table_line(booted: bool, line: &CutLine<'_>) -> Result<Outcome, FaultKind>
-    ensures { (before : Option (SoFar Global)) → booted ≡ is_some before → MatchResult result
-        (λ outcome. (outcome ≡ Outcome.Table) × (table_line before line.now ≡ Ok Asks))
-        (λ kind. table_line before line.now ≡ Err kind) }
-{
-    if !booted {
-        return Err(FaultKind::NoBoot);
-    }
-    if line.words() != 1 {
-        return Err(FaultKind::Count);
-    }
-    Ok(Outcome::Table)
 }
 
 // Handles the first line, which must be a `boot` line.

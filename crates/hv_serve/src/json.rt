@@ -1,28 +1,29 @@
 // Writing the answer to a line in JSON.
-ghost use Rattle.std.specs.Prelude.{◌≡◌, ◌+◌, ◌≤◌, ◌<◌, ◌++◌, [], IfOk, OnOk, Some, ℕ, List, codes, drop};
-ghost use Rattle.std.specs.Prelude.{length, if◌then◌else◌};
+ghost use Rattle.std.specs.Prelude.{◌≡◌, ◌+◌, ◌≤◌, ◌<◌, ◌++◌, [], IfOk, OnOk, ℕ, List, codes, drop};
+ghost use Rattle.std.specs.Prelude.{length, if◌then◌else◌, option_map};
 ghost use Rattle.std.specs.Io.KnownBytes.{Appends};
 ghost use Rattle.hv_defs.specs.declared.sizes.TheConstants.{REPS_END};
 ghost use Rattle.hv_history.specs.History.{entry_by};
 ghost use Rattle.hv_policy.specs.Parts.{next_in, reply_of};
 ghost use Rattle.hv_text.specs.Audit.{entry_text};
-ghost use Rattle.hv_serve.specs.Bench.{IsToldAs, kept_in};
+ghost use Rattle.hv_serve.specs.Bench.{HasAnswered, kept_in};
 ghost use Rattle.hv_serve.specs.Json.{all_escaped, escaped, events_value, fault_value};
-ghost use Rattle.hv_serve.specs.Json.{object_text, string_of, table_member};
-ghost use Rattle.hv_serve.specs.Session.{answer_of, history_of, table_of};
+ghost use Rattle.hv_serve.specs.Json.{object_text, shown_member, string_of, text_value};
+ghost use Rattle.hv_serve.specs.Session.{history_of};
 ghost use Rattle.hv_serve.specs.declared.form.Form.TheVariants.{Json};
 
 use crate::answer::{put_bytes, put_number};
 use crate::bench::Bench;
 use crate::outcome::Outcome;
-use hv_history::{EntryRef, HostRefused, Kept};
+use crate::shown::take_shown;
+use hv_history::{EntryRef, Kept};
 use hv_run::Failure;
-use hv_text::{LINE, Scratch, audit_line, table};
+use hv_text::{LINE, Scratch, audit_line};
 use std::alloc::Global;
 use std::io::Write;
 
-// Writes the object that answers a line. The table is built in memory first, since it stands behind the
-// fault. Returns the outcome of the line, which is out of memory if there is no memory for the table.
+// Writes the object that answers a line. What it shows is built in memory first, since it stands after the
+// fault. Returns the outcome of the line, which is out of memory if there is no memory for what it shows.
 pub(crate) fn put_json<W: Write>(
     alloc: Global,
     out: &mut W,
@@ -31,42 +32,13 @@ pub(crate) fn put_json<W: Write>(
     number: u64,
     outcome: Outcome,
 ) -> Result<Outcome, Failure>
-    ensures { IfOk result (λ told. IsToldAs outcome told × Appends (W.contents out.old) (W.contents out.new)
-        (answer_of Json number before told (kept_in bench.now))) }
+    ensures { IfOk result (λ told. HasAnswered Json number before outcome told (kept_in bench.now)
+        (W.contents out.old) (W.contents out.new)) }
 {
-    let mut table = Vec::new(alloc);
-    let told = take_table(&mut table, bench, outcome);
-    match put_object(out, bench, before, number, told, &table) {
+    let (told, shown) = take_shown(alloc, bench, outcome);
+    match put_object(out, bench, before, number, told, &shown) {
         Ok(()) => Ok(told),
         Err(failure) => Err(failure),
-    }
-}
-
-// Adds the table of the current state, if the line asks for it.
-fn take_table(text: &mut Vec<u8>, bench: &Option<Bench>, outcome: Outcome) -> Outcome
-    requires { text.old.items ≡ [] }
-    ensures told { IsToldAs outcome result }
-    ensures text { result ≡ Outcome.Table → text.new.items ≡ table_of (kept_in bench.now) }
-{
-    match outcome {
-        Outcome::Done | Outcome::Fault(_) | Outcome::Boot(_) | Outcome::Host(_) => outcome,
-        Outcome::Table => match bench {
-            None => Outcome::Table,
-            Some(bench) => add_table(text, bench),
-        },
-    }
-}
-
-fn add_table(text: &mut Vec<u8>, bench: &Bench) -> Outcome
-    requires { text.old.items ≡ [] }
-    ensures told { IsToldAs Outcome.Table result }
-    ensures text { result ≡ Outcome.Table → text.new.items ≡ table_of (Some bench.now.kept) }
-{
-    // Proof: the history is a run.
-    let _history = bench.kept.history();
-    match table(text, &bench.kept) {
-        Ok(()) => Outcome::Table,
-        Err(_) => Outcome::Host(HostRefused::Memory),
     }
 }
 
@@ -77,16 +49,17 @@ fn put_object<W: Write>(
     before: usize,
     number: u64,
     outcome: Outcome,
-    table: &[u8],
+    shown: &Option<Vec<u8>>,
 ) -> Result<(), Failure>
     ensures { OnOk result (Appends (W.contents out.old) (W.contents out.new) (object_text number
-        (events_value (before + 1) (drop before (history_of (kept_in bench.now)))) outcome table.now)) }
+        (events_value (before + 1) (drop before (history_of (kept_in bench.now)))) outcome
+        (option_map (λ text. text.items) shown.now))) }
 {
     put_number(out, b"{\"line\":", number, b",\"events\":[")?;
     put_events(out, bench, before)?;
     put_bytes(out, b"],\"fault\":")?;
     put_why(out, outcome)?;
-    put_table(out, outcome, table)?;
+    put_shown(out, outcome, shown)?;
     put_bytes(out, b"}\n")
 }
 
@@ -153,24 +126,41 @@ fn put_why<W: Write>(out: &mut W, outcome: Outcome) -> Result<(), Failure>
     ensures { OnOk result (Appends (W.contents out.old) (W.contents out.new) (fault_value outcome)) }
 {
     match outcome {
-        Outcome::Done | Outcome::Table => put_bytes(out, b"null"),
+        Outcome::Done | Outcome::Table | Outcome::Peek(_) | Outcome::Explain => {
+            put_bytes(out, b"null")
+        }
         Outcome::Fault(_) | Outcome::Boot(_) | Outcome::Host(_) => {
             put_string(out, outcome.text().as_bytes())
         }
     }
 }
 
-// Writes the member for the table, if the line asks for it.
-fn put_table<W: Write>(out: &mut W, outcome: Outcome, table: &[u8]) -> Result<(), Failure>
+// Writes the member for what the line asks for, if it asks for something.
+fn put_shown<W: Write>(
+    out: &mut W,
+    outcome: Outcome,
+    shown: &Option<Vec<u8>>,
+) -> Result<(), Failure>
     ensures { OnOk result (Appends (W.contents out.old) (W.contents out.new)
-        (table_member outcome table.now)) }
+        (shown_member outcome (option_map (λ text. text.items) shown.now))) }
 {
     match outcome {
         Outcome::Done | Outcome::Fault(_) | Outcome::Boot(_) | Outcome::Host(_) => Ok(()),
-        Outcome::Table => {
-            put_bytes(out, b",\"table\":")?;
-            put_string(out, table)
-        }
+        Outcome::Table => put_member(out, b",\"table\":", shown),
+        Outcome::Peek(_) => put_member(out, b",\"peek\":", shown),
+        Outcome::Explain => put_member(out, b",\"explain\":", shown),
+    }
+}
+
+// Writes a member's name, and a text as its value, which is `null` without a text.
+fn put_member<W: Write>(out: &mut W, name: &[u8], shown: &Option<Vec<u8>>) -> Result<(), Failure>
+    ensures { OnOk result (Appends (W.contents out.old) (W.contents out.new)
+        (name.now ++ text_value (option_map (λ text. text.items) shown.now))) }
+{
+    put_bytes(out, name)?;
+    match shown {
+        None => put_bytes(out, b"null"),
+        Some(text) => put_string(out, text),
     }
 }
 

@@ -3,9 +3,10 @@
 //! [`serve`] reads lines from a reader and writes the answers to a writer, flushed line by line. A line means
 //! what it means in a script. The answer to an action is its lines of the audit. The answer to a line `table`
 //! is the table of partitions. The answer to a line that has a fault, or that the host refuses, is one line
-//! that says why. In JSON each answer is one line. `specs/Session.antt` and `specs/Json.antt` define the
-//! answers. [`a_session_is_a_serial_run`] says that the answers to the lines without fault are the audit of a
-//! serial run of these lines as a script.
+//! that says why. In JSON each answer is one line, and there are two more lines: `peek` asks for a look at a
+//! processor, and `explain` for the last event in words. `specs/Session.antt` and `specs/Json.antt` define
+//! the answers. [`a_session_is_a_serial_run`] says that the answers to the lines without fault are the audit
+//! of a serial run of these lines as a script.
 #![tactic(auto)]
 
 mod answer;
@@ -16,9 +17,13 @@ mod input;
 mod json;
 mod laws;
 mod outcome;
+mod peek;
+mod request;
 mod session;
+mod shown;
 
 pub use form::Form;
 pub use laws::{a_session_is_a_serial_run, an_answer_in_json_is_one_line};
 pub use outcome::Outcome;
+pub use peek::{Look, Peek};
 pub use session::serve;

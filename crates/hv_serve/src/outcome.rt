@@ -2,6 +2,7 @@
 ghost use Rattle.std.specs.Prelude.{◌≡◌, MatchResult};
 ghost use Rattle.hv_serve.specs.Outcome.{kind_text, outcome_by, outcome_of_boot, why_text};
 
+use crate::peek::Peek;
 use hv_history::HostRefused;
 use hv_machine::BootRefused;
 use hv_script::FaultKind;
@@ -13,6 +14,10 @@ pub enum Outcome {
     Done,
     /// It asked for the table.
     Table,
+    /// It asked for a look at a processor.
+    Peek(Peek),
+    /// It asked for the explanation of the last event.
+    Explain,
     /// It has a fault. Nothing changed.
     Fault(FaultKind),
     /// A machine with its configuration does not boot. Nothing changed.
@@ -27,7 +32,7 @@ impl Outcome {
         ensures { result.now ≡ why_text self }
     {
         match self {
-            Outcome::Done | Outcome::Table => "",
+            Outcome::Done | Outcome::Table | Outcome::Peek(_) | Outcome::Explain => "",
             Outcome::Fault(kind) => fault_text(kind),
             Outcome::Boot(BootRefused::Pages) => "boot refused: pages",
             Outcome::Boot(BootRefused::Pool) => "boot refused: pool",

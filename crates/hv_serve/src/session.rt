@@ -82,7 +82,7 @@ fn serve_line<R: Read, W: Write>(
 {
     let end = read_line(reader, line)?;
     let before = events_of(bench);
-    let outcome = take_line(alloc, bench, line, end.lost);
+    let outcome = take_line(alloc, form, bench, line, end.lost);
     if is_silent(form, end, line) {
         return Ok(end.last);
     }

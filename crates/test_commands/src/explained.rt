@@ -47,16 +47,17 @@ fn ends(rt: HostRuntime) -> Result<(), Fail> {
     Ok(())
 }
 
-// A writer that fails after some writes.
+// A writer that fails after some writes, with an error of this kind.
 #[derive(Drop)]
 struct Failing {
     writes: usize,
+    kind: ErrorKind,
 }
 
 impl Write for Failing {
     fn write(&mut self, bytes: &[u8]) -> io::Result<usize> {
         if self.writes == 0 {
-            return Err(io::Error::from(ErrorKind::BrokenPipe));
+            return Err(io::Error::from(self.kind));
         }
         self.writes -= 1;
         Ok(bytes.len())
@@ -67,17 +68,23 @@ impl Write for Failing {
     }
 }
 
+// Explains a script to a writer that fails in its first line, and compares the reason.
+fn expect_failing(rt: &impl Abort, alloc: Global, writes: usize, kind: ErrorKind, told: &str) {
+    let mut err = Vec::new(alloc);
+    let mut out = Failing { writes, kind };
+    let script = "boot 64 32 1 0 9\n1.0 interrupt\n1.0 interrupt\n";
+    let exit = explain_text(alloc, script.as_bytes(), &mut out, &mut err);
+    assert_eq!(rt; exit, Exit::Host);
+    assert_eq!(rt; str::from_utf8(&err).unwrap_or("no text"), told);
+}
+
 #[test]
 fn failing_writes(rt: HostRuntime) -> Result<(), Fail> {
     let alloc = rt.alloc();
     // A line is at most 8 writes.
     for writes in 0..9 {
-        let mut err = Vec::new(alloc);
-        let mut out = Failing { writes };
-        let script = "boot 64 32 1 0 9\n1.0 interrupt\n1.0 interrupt\n";
-        let exit = explain_text(alloc, script.as_bytes(), &mut out, &mut err);
-        assert_eq!(&rt; exit, Exit::Host);
-        assert_eq!(&rt; str::from_utf8(&err).unwrap_or("no text"), "hvpm: write\n");
+        expect_failing(&rt, alloc, writes, ErrorKind::BrokenPipe, "hvpm: write\n");
+        expect_failing(&rt, alloc, writes, ErrorKind::OutOfMemory, "hvpm: memory\n");
     }
     Ok(())
 }

@@ -98,6 +98,72 @@ fn rep_calls(rt: HostRuntime) {
     assert_json(&rt, rt.alloc(), &rows, r#"{"end":true,"events":6}"#);
 }
 
+// Looks at what there is and at what there isn't, their faults, and the last event in words.
+#[test]
+fn looks_and_explanations(rt: HostRuntime) {
+    let rows = [
+        (
+            "peek 1.0 pending",
+            r#"{"line":1,"events":[],"fault":"no boot"}"#,
+        ),
+        ("explain", r#"{"line":2,"events":[],"fault":"no boot"}"#),
+        (
+            "boot 32 12 1 0x000000f700000044 9",
+            r#"{"line":3,"events":[],"fault":null}"#,
+        ),
+        (
+            "explain",
+            r#"{"line":4,"events":[],"fault":null,"explain":null}"#,
+        ),
+        (
+            "peek 1.0 rdmsr 0x40000092",
+            r#"{"line":5,"events":[],"fault":null,"peek":"0000010000000000"}"#,
+        ),
+        (
+            "peek 1.0 pending",
+            "{\"line\":6,\"events\":[],\"fault\":null,\"peek\":\"00000000000000000000000000000000000000000000\
+             00000000000000000000\"}",
+        ),
+        (
+            "peek 1.0 slot 16",
+            r#"{"line":7,"events":[],"fault":null,"peek":null}"#,
+        ),
+        (
+            "peek 1.1 flags 2",
+            r#"{"line":8,"events":[],"fault":null,"peek":null}"#,
+        ),
+        (
+            "peek 1 msr",
+            r#"{"line":9,"events":[],"fault":"bad processor"}"#,
+        ),
+        (
+            "peek 1.0 msr",
+            r#"{"line":10,"events":[],"fault":"unknown word"}"#,
+        ),
+        (
+            "peek 1.0 slot",
+            r#"{"line":11,"events":[],"fault":"word count"}"#,
+        ),
+        (
+            "peek 1.0 slot x",
+            r#"{"line":12,"events":[],"fault":"bad number"}"#,
+        ),
+        (
+            "explain 1",
+            r#"{"line":13,"events":[],"fault":"word count"}"#,
+        ),
+        (
+            "1.0 interrupt",
+            r#"{"line":14,"events":["1 1.0 interrupt ok 00"],"fault":null}"#,
+        ),
+        (
+            "explain",
+            r#"{"line":15,"events":[],"fault":null,"explain":"1 1.0 take an interrupt: ok, no vector"}"#,
+        ),
+    ];
+    assert_json(&rt, rt.alloc(), &rows, r#"{"end":true,"events":1}"#);
+}
+
 // A session without a boot line has no events.
 #[test]
 fn no_boot(rt: HostRuntime) {

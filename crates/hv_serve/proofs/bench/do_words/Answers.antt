@@ -1,20 +1,23 @@
-use Rattle.std.proofs.Common.{◌≡◌, ◌==◌, ◌∙◌, arith, codes, false, length, rules, tests, true}
+use Rattle.std.proofs.Common.{◌≡◌, ◌==◌, arith, false, length, sym, ◌∙◌}
 use Rattle.std.proofs.lemmas.Bool.Decides.{nat_tests}
-use Rattle.hv_script.specs.Words.{begins_with}
-use Rattle.hv_serve.specs.Bench.{words_say}
-use Rattle.hv_serve.specs.Meant.{table_line}
 use Rattle.hv_serve.specs.Session.{read_of}
-use Rattle.hv_serve.proofs.Benches.{is_booted, took_table}
-use Rattle.hv_serve.proofs.Says.{by_first}
+use Rattle.hv_serve.proofs.Benches.{is_booted}
+use Rattle.hv_serve.proofs.Takes.{took_request, took_script}
 use Rattle.hv_serve.proofs.bench.do_words.Goals as goal
 
-pub returns-then-begins_with : goal.returns-then-begins_with
-returns-then-begins_with c =
+pub returns-in-Some : goal.returns-in-Some
+returns-in-Some c =
     let words = c.args.line.now in
     let count = c.words.ensures in
     let none = c.if-words-eq0.false in
     let some : (length words == 0) ≡ false = grind (arith, nat_tests) in
-    let begins : begins_with words (codes "table") ≡ true = search (rules, tests) in
-    λ before stands. took_table c.args.bench.now before (words_say (read_of before) words) (table_line (read_of before) words) c.table_line.result stands
-    (by_first (read_of before) words true some begins)
-    (c.table_line.ensures (read_of before) (c.is_some.ensures ∙ is_booted c.args.bench.now before stands))
+    λ before stands. took_request c.args.form c.args.bench.now before words c.in-Some.request c.read.result stands some (sym c.of.ensures ∙ c.in-Some.is)
+    (c.read.ensures (read_of before) (c.is_some.ensures ∙ is_booted c.args.bench.now before stands))
+
+pub returns-in-None : goal.returns-in-None
+returns-in-None c =
+    let words = c.args.line.now in
+    let count = c.words.ensures in
+    let none = c.if-words-eq0.false in
+    let some : (length words == 0) ≡ false = grind (arith, nat_tests) in
+    λ before stands. took_script c.args.form c.args.bench.now c.script_line.new.bench before words c.script_line.result stands some (sym c.of.ensures ∙ c.in-None.is) c.script_line.ensures

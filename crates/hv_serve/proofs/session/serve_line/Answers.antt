@@ -1,4 +1,5 @@
-use Rattle.std.proofs.Common.{ℕ, ◌∙◌, true, false, List, inl, refl, subst, sym}
+use Rattle.std.proofs.Common.{ℕ, ◌≢◌, ◌∙◌, true, false, List, [], inl, refl, subst, sym}
+use Rattle.std.proofs.lemmas.List.Elements.{All-nil}
 use Rattle.std.proofs.KnownBytes.{Appends-nil}
 use Rattle.hv_serve.specs.Input.{AreKept}
 use Rattle.hv_serve.proofs.Takes.{turned}
@@ -13,9 +14,9 @@ returns-then-is_silent g c =
     let out = g.W.Write.contents c.args.out.now in
     λ before stands. turned c.args.form c.args.number c.events_of-before.result before c.args.bench.now c.take_line-outcome.new.bench c.read_line.new.line.items c.in_ok-end.end
     (g.R.Read.remaining c.args.reader.now) (g.R.Read.remaining c.read_line.new.reader) out out
-    c.take_line-outcome.result c.take_line-outcome.result true stands came (sym c.if-is_silent.true ∙ c.is_silent.ensures came.bytes kept-2) (c.take_line-outcome.ensures before came.bytes stands
+    c.take_line-outcome.result c.take_line-outcome.result [] true stands came (sym c.if-is_silent.true ∙ c.is_silent.ensures came.bytes kept-2) (c.take_line-outcome.ensures before came.bytes stands
     came.one kept)
-    c.events_of-before.ensures (inl refl) (Appends-nil out)
+    c.events_of-before.ensures (inl refl) (All-nil (λ byte. byte ≢ 10)) (Appends-nil out)
 
 pub returns : goal.returns
 returns g c =
@@ -26,5 +27,5 @@ returns g c =
     let told = c.in_ok-put_answer.ensures in
     λ before stands. turned c.args.form c.args.number c.events_of-before.result before c.args.bench.now c.take_line-outcome.new.bench c.read_line.new.line.items c.in_ok-end.end
     (g.R.Read.remaining c.args.reader.now) (g.R.Read.remaining c.read_line.new.reader) (g.W.Write.contents c.args.out.now) (g.W.Write.contents c.put_answer.new.out)
-    c.take_line-outcome.result c.in_ok-put_answer.field-0 false stands came (sym c.if-is_silent.false ∙ c.is_silent.ensures came.bytes kept-2)
-    (c.take_line-outcome.ensures before came.bytes stands came.one kept) c.events_of-before.ensures told.0 told.1
+    c.take_line-outcome.result c.in_ok-put_answer.field-0 told.words false stands came (sym c.if-is_silent.false ∙ c.is_silent.ensures came.bytes kept-2)
+    (c.take_line-outcome.ensures before came.bytes stands came.one kept) c.events_of-before.ensures told.told_as told.plain told.wrote
