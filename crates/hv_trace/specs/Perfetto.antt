@@ -5,7 +5,6 @@ use Rattle.std.specs.Option.{option_map_or}
 use Rattle.std.specs.declared.alloc.Global.{Global}
 use Rattle.hv_abi.specs.Check.{call_of}
 use Rattle.hv_explain.specs.Written.{HasExplainedText, Telling}
-use Rattle.hv_history.specs.declared.entry.Entry.{Entry}
 use Rattle.hv_policy.specs.Rule.{rule_name}
 use Rattle.hv_policy.specs.declared.event.Action.{Action}
 use Rattle.hv_policy.specs.declared.event.Action.TheVariants.{Hypercall, ReadMsr, WriteMsr, ReadSlot}
@@ -51,10 +50,14 @@ answer_text (More next output) = codes "\",\"args\":{\"reply\":\"more"
 answer_text (Denied rule status reps) = refused_text (codes "denied") (rule_name rule)
 answer_text (Fault rule) = refused_text (codes "fault") (rule_name rule)
 
--- the start of a slice: the event's number as the time, and its processor
+-- a mark and the time of an event: its number in milliseconds, written in microseconds, as viewers take them
+unfoldable pub time_text : List ℕ → ℕ → List ℕ
+time_text mark number = number_text mark number ++ codes "000"
+
+-- the start of a slice: the event's time, and its processor
 unfoldable pub start_text : ℕ → Caller → List ℕ
 start_text number by =
-    number_text (codes "{\"ph\":\"X\",\"ts\":") number ++ codes ",\"dur\":0.9" ++ lane_text by
+    time_text (codes "{\"ph\":\"X\",\"cat\":\"hvpm\",\"ts\":") number ++ codes ",\"dur\":900" ++ lane_text by
 
 -- the name of an event, and its reply
 unfoldable pub title_text : Action Global → Reply → List ℕ
@@ -80,16 +83,20 @@ thread_text by =
     codes ",{\"ph\":\"M\",\"name\":\"thread_name\"" ++ lane_text by ++
     number_text (codes ",\"args\":{\"name\":\"vp ") by.vp ++ codes "\"}}"
 
--- an end of an arrow at an event
+-- the start of an arrow's end, with the arrow's number
+unfoldable pub id_text : List ℕ → ℕ → List ℕ
+id_text head id = head ++ number_text (codes ",\"id\":") id
+
+-- an end of an arrow at an event. Viewers look for a slice of its category there
 unfoldable pub end_text : List ℕ → ℕ → Moment → List ℕ
 end_text head id at =
-    head ++ number_text (codes ",\"id\":") id ++ number_text (codes ",\"ts\":") at.number ++
-    lane_text at.by ++ codes ",\"cat\":\"reach\",\"name\":\"reaches\"}"
+    id_text head id ++ time_text (codes ",\"ts\":") at.number ++ lane_text at.by ++
+    codes ",\"cat\":\"hvpm\",\"name\":\"reaches\"}"
 
 -- the start of a counter of a partition
 unfoldable pub counter_text : ℕ → ℕ → List ℕ
 counter_text at part =
-    number_text (codes ",{\"ph\":\"C\",\"ts\":") at ++ number_text (codes ",\"pid\":") part
+    time_text (codes ",{\"ph\":\"C\",\"ts\":") at ++ number_text (codes ",\"pid\":") part
 
 -- the pages of a partition after an event
 unfoldable pub pages_text : ℕ → ℕ → ℕ → ℕ → List ℕ

@@ -1,8 +1,9 @@
 // What a chart has beside the slices.
 ghost use Rattle.std.specs.Prelude.{OnOk};
 ghost use Rattle.std.specs.Io.KnownBytes.{Appends};
-ghost use Rattle.hv_trace.specs.Perfetto.{counter_text, end_text, lane_text, note_text, notes_text};
-ghost use Rattle.hv_trace.specs.Perfetto.{number_text, pages_text, process_text, thread_text, waiting_text};
+ghost use Rattle.hv_trace.specs.Perfetto.{counter_text, end_text, id_text, lane_text, note_text};
+ghost use Rattle.hv_trace.specs.Perfetto.{number_text, pages_text, process_text, thread_text, time_text};
+ghost use Rattle.hv_trace.specs.Perfetto.{notes_text, waiting_text};
 
 use crate::put::put_number;
 use hv_policy::Caller;
@@ -109,7 +110,7 @@ fn put_thread<W: Write>(out: &mut W, by: Caller) -> io::Result<()>
 fn put_counter<W: Write>(out: &mut W, at: u64, part: u64) -> io::Result<()>
     ensures { OnOk result (Appends (W.contents out.old) (W.contents out.new) (counter_text at part)) }
 {
-    put_number(out, b",{\"ph\":\"C\",\"ts\":", at)?;
+    put_time(out, b",{\"ph\":\"C\",\"ts\":", at)?;
     put_number(out, b",\"pid\":", part)
 }
 
@@ -148,11 +149,28 @@ fn put_index<W: Write>(out: &mut W, mark: &[u8], vp: u32) -> io::Result<()>
 fn put_end<W: Write>(out: &mut W, head: &[u8], id: u64, at: Moment) -> io::Result<()>
     ensures { OnOk result (Appends (W.contents out.old) (W.contents out.new) (end_text head.now id at)) }
 {
-    out.write_all(head)?;
-    put_number(out, b",\"id\":", id)?;
-    put_number(out, b",\"ts\":", at.number)?;
+    put_id(out, head, id)?;
+    put_time(out, b",\"ts\":", at.number)?;
     put_lane(out, at.by)?;
-    out.write_all(b",\"cat\":\"reach\",\"name\":\"reaches\"}")
+    out.write_all(b",\"cat\":\"hvpm\",\"name\":\"reaches\"}")
+}
+
+// Writes the start of an arrow's end, with the arrow's number.
+#[tactic(auto, unfolding(crate::specs::Perfetto::id_text))]
+fn put_id<W: Write>(out: &mut W, head: &[u8], id: u64) -> io::Result<()>
+    ensures { OnOk result (Appends (W.contents out.old) (W.contents out.new) (id_text head.now id)) }
+{
+    out.write_all(head)?;
+    put_number(out, b",\"id\":", id)
+}
+
+/// Writes a mark and the time of an event.
+#[tactic(auto, unfolding(crate::specs::Perfetto::time_text))]
+pub(crate) fn put_time<W: Write>(out: &mut W, mark: &[u8], number: u64) -> io::Result<()>
+    ensures { OnOk result (Appends (W.contents out.old) (W.contents out.new) (time_text mark.now number)) }
+{
+    put_number(out, mark, number)?;
+    out.write_all(b"000")
 }
 
 /// Writes the process and the thread of a processor.

@@ -5,8 +5,8 @@ ghost use Rattle.hv_trace.specs.Perfetto.{action_name, answer_text, line_text, r
 ghost use Rattle.hv_trace.specs.Perfetto.{start_text, title_text};
 ghost use Rattle.hv_words.specs.Words.{IsPlain};
 
-use crate::perfetto::note::{Note, put_lane, put_notes};
-use crate::put::{put_number, put_text};
+use crate::perfetto::note::{Note, put_lane, put_notes, put_time};
+use crate::put::put_text;
 use hv_abi::{CallKind, InputValue};
 use hv_policy::{Action, Caller, Reply};
 use hv_words::{Words, call_name};
@@ -59,8 +59,8 @@ fn put_slice<W: Write>(
 fn put_start<W: Write>(out: &mut W, number: u64, by: Caller) -> io::Result<()>
     ensures { OnOk result (Appends (W.contents out.old) (W.contents out.new) (start_text number by)) }
 {
-    put_number(out, b"{\"ph\":\"X\",\"ts\":", number)?;
-    out.write_all(b",\"dur\":0.9")?;
+    put_time(out, b"{\"ph\":\"X\",\"cat\":\"hvpm\",\"ts\":", number)?;
+    out.write_all(b",\"dur\":900")?;
     put_lane(out, by)
 }
 
