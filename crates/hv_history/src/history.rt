@@ -132,6 +132,11 @@ impl<A: Allocator> History<A> {
         let Some(bytes) = more.checked_mul(MOST_OUTPUT) else {
             return Err(AllocError);
         };
+        // Most processors of a large script have a single event.
+        if self.rows.capacity() == 0 {
+            self.rows.reserve_exact(more)?;
+            self.heads.reserve_exact(more)?;
+        }
         self.rows.reserve(more)?;
         self.heads.reserve(more)?;
         self.outputs.reserve(bytes)
@@ -147,15 +152,16 @@ impl<A: Allocator> History<A> {
         ensures room { room_of self.old ≤ room_of self.new + 1 }
     {
         let rcx = rcx_of(&event.what);
-        let head = self.place(event);
+        let mut event = event;
+        let head = self.place(&mut event);
         self.push_row(head, rcx, answer, output);
     }
 
     /// Adds the events of another history from a place on, with their replies. There is room for them, and
-    /// `event` differs from each of them in RCX alone.
-    pub fn push_all(&mut self, event: Event<A>, other: &History<A>, from: usize)
+    /// `event` differs from each of them in RCX alone. It stays as it is, or becomes a head.
+    pub fn push_all(&mut self, event: &mut Event<A>, other: &History<A>, from: usize)
         requires from { from ≤ length (entries other.now) }
-        requires alike { DifferInRcx event (drop from (entries other.now)) }
+        requires alike { DifferInRcx event.old (drop from (entries other.now)) }
         requires room { length (entries other.now) ≤ from + room_of self.old }
         ensures pushed { entries self.new ≡ entries self.old ++ drop from (entries other.now) }
         ensures room { room_of self.old ≤ room_of self.new + (length (entries other.now) - from) }
@@ -172,23 +178,23 @@ impl<A: Allocator> History<A> {
     }
 
     // Returns the place of an event's head. If the event differs from the last head in RCX alone, that head
-    // serves, and the event is dropped. Otherwise the event becomes a head.
-    fn place(&mut self, event: Event<A>) -> usize
+    // serves, and the event stays. Otherwise it becomes a head, and another event stands in its place.
+    fn place(&mut self, event: &mut Event<A>) -> usize
         requires { vec_len self.old.heads < vec_capacity self.old.heads }
         ensures rows { self.new.rows ≡ self.old.rows }
         ensures outputs { self.new.outputs ≡ self.old.outputs }
         ensures same { entries self.new ≡ entries self.old }
         ensures there { result < vec_len self.new.heads }
-        ensures head { asking (head_at self.new.heads.items result) (rcx_in event.what) ≡ event }
+        ensures head { asking (head_at self.new.heads.items result) (rcx_in event.old.what) ≡ event.old }
         ensures more { vec_len self.new.heads ≤ vec_len self.old.heads + 1 }
         ensures room { vec_capacity self.new.heads ≡ vec_capacity self.old.heads }
     {
         if let Some(last) = self.heads.last() {
-            if are_alike(last, &event) {
+            if are_alike(last, event) {
                 return self.heads.len() - 1;
             }
         }
-        self.heads.push_reserved(event);
+        self.heads.push_reserved(mem::replace(event, any_event()));
         self.heads.len() - 1
     }
 
@@ -233,11 +239,7 @@ impl<A: Allocator> History<A> {
             → head_at self.new.heads.items result ≡ element last.event.by (restart frame start) }
     {
         let row = self.rows[self.rows.len() - 1];
-        let none = Event {
-            by: Caller { part: 0, vp: 0 },
-            what: Action::TakeInterrupt,
-        };
-        let event = mem::replace(&mut self.heads[row.head], none);
+        let event = mem::replace(&mut self.heads[row.head], any_event());
         self.heads[row.head] = at_element(event, row.rcx, start);
         row.head
     }
@@ -253,6 +255,14 @@ impl<A: Allocator> History<A> {
     {
         let rcx = rcx_of(&self.heads[head].what);
         self.push_row(head, rcx, answer, output);
+    }
+}
+
+// An event in the place of one that is taken.
+fn any_event<A: Allocator>() -> Event<A> {
+    Event {
+        by: Caller { part: 0, vp: 0 },
+        what: Action::TakeInterrupt,
     }
 }
 

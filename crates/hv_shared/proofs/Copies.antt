@@ -94,6 +94,15 @@ few_of (Some kind) rcx most = by ((row_of kind).rep && is_input_valid (row_of ki
     by true = omega arith
     by false = omega arith
 
+-- fewer of them, where fewer are asked for
+pub capped : (named : Option CallKind) (rcx most fewer : ℕ) → 1 ≤ fewer → fewer ≤ most → elements_of named rcx fewer ≡ min (elements_of named rcx most) fewer
+capped None rcx most fewer some less = omega arith
+capped (Some kind) rcx most fewer some less = by ((row_of kind).rep && is_input_valid (row_of kind) rcx)
+  where
+    by : (b : Bool) → (if b then min (bits rcx 32 12 - bits rcx 48 12) fewer else 1) ≡ min (if b then min (bits rcx 32 12 - bits rcx 48 12) most else 1) fewer
+    by true = omega arith
+    by false = omega arith
+
 -- so that there are copies of all that happen
 pub enough_in : (f : Flat) (by : Caller) (frame : Frame Global) (es : List (Entry Global)) (now : Frame Global) (most : ℕ) → AreElements by frame es now → replies_of es ≡ (run_from f (events_of es)).1
     → length es < most → length es < elements_in frame.rcx most

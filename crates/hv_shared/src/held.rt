@@ -5,20 +5,19 @@ ghost use Rattle.std.specs.Prelude.{vec_len, vec_capacity};
 ghost use Rattle.hv_defs.specs.declared.sizes.TheConstants.{REPS_END};
 ghost use Rattle.hv_abi.specs.declared.frame.Frame.{Frame};
 ghost use Rattle.hv_policy.specs.Next.{GoesOn};
-ghost use Rattle.hv_policy.specs.Parts.{reply_of};
 ghost use Rattle.hv_policy.specs.Result.{HasResult};
 ghost use Rattle.hv_policy.specs.Step.{NamesAsked};
 ghost use Rattle.hv_policy.specs.declared.event.Action.TheVariants.{Hypercall};
 ghost use Rattle.hv_history.specs.Kept.{HasGained, IsRun};
-ghost use Rattle.hv_history.specs.Run.{HasRun, HasStopped, element, restart};
+ghost use Rattle.hv_history.specs.Run.{HasRun, HasStopped};
 ghost use Rattle.hv_shared.specs.Copies.{AreCopies};
-ghost use Rattle.hv_shared.specs.Hold.{HasHeld, HasHeldOne};
+ghost use Rattle.hv_shared.specs.Hold.{HasHeld};
 ghost use Rattle.hv_shared.specs.Pass.{HasReceipt, IsAsBefore};
 ghost use Rattle.hv_shared.specs.Receipts.{list_of};
 ghost use Rattle.hv_shared.specs.Shared.{AreOpened};
 
 use crate::receipts::Receipts;
-use hv_abi::{Bytes, Frame};
+use hv_abi::Frame;
 use hv_history::{HostRefused, Kept, RunAnswered, RunDone};
 use hv_policy::{Action, Caller, Event, Output, Reply};
 use std::alloc::{AllocError, Global};
@@ -38,10 +37,10 @@ pub struct Pass<L: Ledger> {
     // In a block of their own, so a pass, and what a settlement has to find of it, are small to move.
     receipts: Box<Receipts>,
     share: Share<L>,
-    // An empty list, whose block the next hold's copies use again.
+    // The copies of the last hold. The next hold's copies use their memory.
     copies: Vec<Event<Global>>,
-    // The input lists of copies that no receipt took. Copies of later holds use their blocks again.
-    spare: Vec<Bytes<Global>>,
+    // Copies of earlier holds that had more.
+    spare: Vec<Event<Global>>,
 }
 
 impl<L: Ledger> Model for Pass<L> {
@@ -115,45 +114,25 @@ impl<L: Ledger> Pass<L> {
         self.receipts.reserve(more)
     }
 
-    // Returns an empty list with room for `count` copies, in the block of the last hold's copies.
-    pub(crate) fn room_for_copies(&mut self, count: usize) -> Result<Vec<Event<Global>>, AllocError>
-        ensures empty { IfOk result (λ copies. copies.items ≡ []) }
-        ensures len { IfOk result (λ copies. vec_len copies ≡ 0) }
-        ensures room { IfOk result (λ copies. count ≤ vec_capacity copies) }
+    // Returns a list of this many events, whose memory the copies of a hold use.
+    pub(crate) fn take_copies(&mut self, count: usize) -> Result<Vec<Event<Global>>, AllocError>
+        ensures len { IfOk result (λ copies. vec_len copies ≡ count) }
         ensures same { self.new ≡ self.old }
     {
         let none = Vec::new(self.receipts.allocator());
         let mut copies = mem::replace(&mut self.copies, none);
-        copies.clear();
-        copies.reserve(count)?;
+        cut(&mut copies, count, &mut self.spare);
+        copies.reserve(count - copies.len())?;
+        while copies.len() < count {
+            copies.push_reserved(match self.spare.pop() {
+                Some(copy) => copy,
+                None => Event {
+                    by: self.caller,
+                    what: Action::TakeInterrupt,
+                },
+            });
+        }
         Ok(copies)
-    }
-
-    // Returns a copy of the caller's event of a frame, with this start index.
-    pub(crate) fn copy_at(
-        &mut self,
-        frame: &Frame<Global>,
-        start: u16,
-    ) -> Result<Event<Global>, AllocError>
-        requires { start < REPS_END }
-        ensures copy { IfOk result (λ event. event ≡ element self.old.caller (restart frame.now start)) }
-        ensures same { self.new ≡ self.old }
-    {
-        let mut input = match self.spare.pop() {
-            Some(input) => input,
-            None => Bytes::from_vec(Vec::new(self.receipts.allocator())),
-        };
-        input.refill(frame.input.as_slice())?;
-        let copy = Frame {
-            rcx: frame.rcx,
-            rdx: frame.rdx,
-            r8: frame.r8,
-            input,
-        };
-        Ok(Event {
-            by: self.caller,
-            what: Action::Hypercall(copy.with_start(start)),
-        })
     }
 
     // A pass without receipts, with one part of the count.
@@ -265,8 +244,7 @@ impl<L: Ledger> Held<L> {
     /// Applies the elements of a call by the pass's caller as [`Kept::apply_run`](hv_history::Kept) does, and
     /// keeps their receipts, for which there is room. The copies are the caller's events of the frame at its
     /// start index, then at each next one, up to `most` of them or to the last element. There is only one for
-    /// a simple call, or if P4 or P5 denies the frame. The copies of the elements that happen become the
-    /// receipts'.
+    /// a simple call, or if P4 or P5 denies the frame. Where the receipts need an event, they take the first.
     // Inlined: calls for the own id in bench/largest.sh.
     #[inline(always)]
     pub fn hold_run(
@@ -296,9 +274,8 @@ impl<L: Ledger> Held<L> {
         // proof: a history's length fits 32 bits.
         let _limit = self.kept.limit();
         let mut copies = copies;
-        let first = copies.swap_remove(0);
+        let first = &mut copies[0];
         pass.receipts.push_all(self.kept.history(), from, first);
-        spare_lists(&mut copies, &mut pass.spare);
         pass.copies = copies;
         let last = match last {
             Ok(answer) => Ok(Reply::of(answer, self.output.as_slice())),
@@ -315,17 +292,20 @@ impl<L: Ledger> Held<L> {
     }
 }
 
-// Takes the copies that no receipt took apart, and keeps their input lists. Without room for them, they are
-// freed.
-fn spare_lists(copies: &mut Vec<Event<Global>>, spare: &mut Vec<Bytes<Global>>) {
-    if spare.reserve(copies.len()).is_err() {
+// Cuts the copies of a hold to this many, and keeps the others. Without room for them, they are freed.
+fn cut(copies: &mut Vec<Event<Global>>, count: usize, spare: &mut Vec<Event<Global>>)
+    ensures { vec_len copies.new ≤ count }
+{
+    if copies.len() <= count {
         return;
     }
-    while let Some(copy) = copies.pop() {
-        if let Action::Hypercall(frame) = copy.what {
-            if spare.len() < spare.capacity() {
-                spare.push_reserved(frame.input);
-            }
+    if spare.reserve(copies.len() - count).is_err() {
+        copies.truncate(count);
+        return;
+    }
+    while copies.len() > count {
+        if let Some(copy) = copies.pop() {
+            spare.push_reserved(copy);
         }
     }
 }

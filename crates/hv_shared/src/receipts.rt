@@ -162,9 +162,14 @@ impl Receipts {
     }
 
     // Adds a receipt of each event of a history from a place on. There is room for them, and `copy` differs
-    // from each of them in RCX alone.
-    pub(crate) fn push_all(&mut self, history: &History<Global>, from: usize, copy: Event<Global>)
-        requires alike { DifferInRcx copy (drop from (entries history.now)) }
+    // from each of them in RCX alone. It stays as it is, or becomes the receipts'.
+    pub(crate) fn push_all(
+        &mut self,
+        history: &History<Global>,
+        from: usize,
+        copy: &mut Event<Global>,
+    )
+        requires alike { DifferInRcx copy.old (drop from (entries history.now)) }
         requires from { from ≤ length (entries history.now) }
         requires few { length (entries history.now) < 2 ^ 32 }
         requires room { length (entries history.now) ≤ from + room_in self.old }

@@ -16,7 +16,7 @@ loop-at-preserved g c =
     let less : l.at < length (entries h) = let t = c.loop-at-test.true in let n = c.len-at-end.ensures in omega arith in
     let e : Entry g.row.A.Denot = entry_of h.heads.items h.outputs.items row in
     let there = entry_at h.heads.items h.outputs.items h.rows.items l.at row less c.index-row.ensures in
-    let alike = differs_at c.args.event (entries h) c.args.from l.at e c.requires.alike l.auto.at less there in
+    let alike = differs_at c.args.event.now (entries h) c.args.from l.at e c.requires.alike l.auto.at less there in
     let event = same_but (head_at l.self.heads.items c.place-head.result) (head_at h.heads.items row.head) row.rcx (is.alike ∙ sym alike) in
     let reply = ap (reply_of row.answer) (bytes-read c.deref.result.now h.outputs.items row.output row.output_len c.deref.ensures.value) in
     let more = pushed.row in

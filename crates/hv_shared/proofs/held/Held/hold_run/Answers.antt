@@ -12,8 +12,8 @@ use Rattle.hv_shared.proofs.Packed.{some_more}
 use Rattle.hv_shared.proofs.Numbers.{count, owned}
 use Rattle.hv_shared.proofs.held.Held.hold_run.Goals as goal
 
-pub swap_remove-first-requires : goal.swap_remove-first-requires
-swap_remove-first-requires g c =
+pub index_mut-first-requires : goal.index_mut-first-requires
+index_mut-first-requires g c =
     let some = some_copies c.args.pass.now.caller c.args.frame c.args.most c.args.copies.items c.requires.copies c.requires.some in
     let ok = c.args.copies.ok.0 in
     omega arith
@@ -33,7 +33,7 @@ push_all-requires g c =
     let same = ap (λ (p : PassValue). p.room) c.pass.view_is in
     let receipts = ap room_in c.deref_mut.ensures.value in
     let some = some_copies _ c.args.frame c.args.most c.args.copies.items are c.requires.some in
-    let first = first_copy _ c.args.frame c.args.copies.items c.swap_remove-first.result are.asking some c.swap_remove-first.ensures.value in
+    let first = first_copy _ c.args.frame c.args.copies.items c.index_mut-first.result.now are.asking some c.index_mut-first.ensures.value in
     record {
       alike = rw (first, tail_is (entries c.history-2.result.now) c.self.inside.kept.history is.more c.len-from.result history from) is.alike;
       from = omega (arith, all, from, length-append c.self.inside.kept.history is.more);
