@@ -1,5 +1,5 @@
 // A line on the stack.
-ghost use Rattle.std.specs.Prelude.{◌≡◌, ◌+◌, ◌*◌, ◌≤◌, [], ◌++◌, length, decimal};
+ghost use Rattle.std.specs.Prelude.{◌≡◌, ◌+◌, ◌*◌, ◌≤◌, [], ◌++◌, length, decimal, drop, take};
 ghost use Rattle.hex.specs.Hex.{encode_lower};
 ghost use Rattle.hv_text.specs.declared.text.TheConstants.{LINE, MOST_DIGITS, MOST_WIDE_DIGITS};
 
@@ -34,6 +34,9 @@ static PAIRS: [u8; 512] = *b"\
     e0e1e2e3e4e5e6e7e8e9eaebecedeeef\
     f0f1f2f3f4f5f6f7f8f9fafbfcfdfeff\
 ";
+
+// The number of bytes whose digits one step of a loop writes.
+const BLOCK: usize = 8;
 
 // The line that is being built.
 #[derive(Drop)]
@@ -150,7 +153,23 @@ fn put_pairs(bytes: &[u8], room: &mut [u8])
     requires { length room.old ≡ 2 * length bytes.now }
     ensures { room.new ≡ encode_lower bytes.now }
 {
-    for at in 0..bytes.len() {
+    let whole = bytes.len() / BLOCK;
+    for block in 0..whole {
+        put_range(bytes, room, BLOCK * block, BLOCK * block + BLOCK);
+    }
+    put_range(bytes, room, BLOCK * whole, bytes.len());
+}
+
+// Writes the two digits of each byte of a range, after those of the bytes before it.
+fn put_range(bytes: &[u8], room: &mut [u8], from: usize, to: usize)
+    requires order { (from ≤ to) × (to ≤ length bytes.now) }
+    requires room { length room.old ≡ 2 * length bytes.now }
+    requires so_far { take (2 * from) room.old ++ encode_lower (drop from bytes.now)
+        ≡ encode_lower bytes.now }
+    ensures room { length room.new ≡ length room.old }
+    ensures so_far { take (2 * to) room.new ++ encode_lower (drop to bytes.now) ≡ encode_lower bytes.now }
+{
+    for at in from..to {
         let pair = 2 * bytes[at] as usize;
         let (high, low) = (PAIRS[pair], PAIRS[pair + 1]);
         room[2 * at] = high;
