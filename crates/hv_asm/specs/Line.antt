@@ -7,8 +7,8 @@ use Rattle.std.specs.declared.alloc.Global.{Global}
 use Rattle.hv_policy.specs.declared.event.Action.{Action}
 use Rattle.hv_policy.specs.declared.event.Action.TheVariants.{Hypercall, ReadMsr, WriteMsr}
 use Rattle.hv_policy.specs.declared.event.Caller.{Caller}
-use Rattle.hv_record.specs.Recorded.{line_text}
 use Rattle.hv_script.specs.Line.{◌>>=◌, processor_of}
+use Rattle.hv_script.specs.Recorded.{line_text}
 use Rattle.hv_script.specs.Words.{has_good_bytes, is_skipped, word_at, words_of}
 use Rattle.hv_script.specs.declared.fault.FaultKind.TheVariants.{Byte, Count, Word}
 use Rattle.hv_asm.specs.Frame.{frame_of}

@@ -12,8 +12,7 @@ use crate::names::{call_named, msr_of};
 use crate::push::push_bytes;
 use crate::values::numeral;
 use hv_policy::{Action, Caller};
-use hv_record::script_line;
-use hv_script::{FaultKind, around, processor};
+use hv_script::{FaultKind, around, processor, script_line};
 use std::alloc::Global;
 
 /// Adds the line that a line means: its numbers, or itself where it isn't by names.

@@ -6,7 +6,7 @@ use Rattle.hv_policy.specs.declared.event.Action.{Action}
 use Rattle.hv_policy.specs.declared.event.Action.TheVariants.{ReadMsr, WriteMsr, ReadSlot, ClearSlot}
 use Rattle.hv_policy.specs.declared.event.Action.TheVariants.{ReadFlags, ClearFlag, TakeInterrupt}
 use Rattle.hv_policy.specs.declared.event.Caller.{Caller}
-use Rattle.hv_record.specs.Recorded.{line_text}
+use Rattle.hv_script.specs.Recorded.{line_text}
 use Rattle.hv_embed.specs.declared.layout.TheConstants.{READ_MSR, WRITE_MSR, READ_SLOT, CLEAR_SLOT}
 use Rattle.hv_embed.specs.declared.layout.TheConstants.{READ_FLAGS, CLEAR_FLAG, TAKE_INTERRUPT}
 use Rattle.hv_embed.specs.declared.status.TheConstants.{DONE, MEMORY, NONE, SHORT}

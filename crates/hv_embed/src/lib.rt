@@ -9,7 +9,7 @@
 //!
 //! `hv_embed_peek_*` and the functions beside them look at a machine without an event, as `hv_looks`
 //! promises. `hv_embed_table` writes the machine's table into a buffer. `hv_embed_hypercall_line` and
-//! `hv_embed_access_line` write an event as a line of a script, as `hv_record` does.
+//! `hv_embed_access_line` write an event as a line of a script, as `hv_script` does.
 #![tactic(auto)]
 
 mod answer;

@@ -4,7 +4,7 @@ ghost use Rattle.std.specs.Prelude.{◌≡◌, ◌≢◌, ◌++◌, ℕ, List, c
 ghost use Rattle.hv_machine.specs.IsFlat.{IsFlat};
 ghost use Rattle.hv_policy.specs.Flat.{Flat};
 ghost use Rattle.hv_policy.specs.declared.event.Action.TheVariants.{Hypercall};
-ghost use Rattle.hv_record.specs.Recorded.{line_text};
+ghost use Rattle.hv_script.specs.Recorded.{line_text};
 ghost use Rattle.hv_text.specs.Table.{table_text};
 ghost use Rattle.hv_embed.specs.Answer.{caller_of as caller_by, frame_of as frame_by};
 ghost use Rattle.hv_embed.specs.Taken.{IsAsBefore};
@@ -21,7 +21,7 @@ use crate::status::{DONE, MEMORY, NONE, SHORT};
 use crate::take::caller_of;
 use hv_machine::{Caller, Machine};
 use hv_policy::Action;
-use hv_record::script_line;
+use hv_script::script_line;
 use hv_text::table_of;
 use std::alloc::Global;
 

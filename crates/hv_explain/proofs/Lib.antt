@@ -1,3 +1,5 @@
 pub mod Written
 pub mod Whole
 pub mod Lines
+mod Following
+mod Last

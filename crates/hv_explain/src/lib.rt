@@ -1,4 +1,4 @@
-//! The events of a script in words, one line for each.
+//! The events of a script or of an audit in words, one line for each: `hvpm explain SCRIPT [AUDIT]`.
 //!
 //! A line has the call or the access and its answer. For a refusal it also has the rule that failed, and the
 //! values that decided.
@@ -7,13 +7,21 @@
 //! that the events are those of a run, and that each has one line, which begins with its number and its
 //! processor. After the processor comes free text, which `hv_reasons` composes.
 //!
+//! [`follow_text`] checks an audit beside its script, as `hv_check` does. It then takes the audit's events
+//! once more, in the audit's order, and explains each in such a line. An audit of threads, or of another
+//! program, is thus explained in the order in which its events happened. `HasFollowed` of
+//! `specs/Followed.antt` says what is printed.
+//!
 //! A [`Teller`] decides what is written about an event. It gets the event's effect, which is that of its
 //! step. [`Explainer`] writes the words, and other crates have tellers of their own. [`explain_with`] runs a
-//! script with any teller. [`explain_event`] takes one event, for callers that take events in another order.
-//! [`explain_last`] explains the last event of a history that was taken before.
+//! script with any teller, and [`follow_with`] takes the events of an audit with any teller.
+//! [`explain_event`] takes one event, for callers that take events in another order. [`explain_last`]
+//! explains the last event of a history that was taken before.
 #![tactic(auto)]
 
+mod audit;
 mod explainer;
+mod follow;
 mod last;
 mod line;
 mod run;
@@ -21,6 +29,7 @@ mod script;
 mod teller;
 
 pub use explainer::Explainer;
+pub use follow::{follow_text, follow_with};
 pub use last::explain_last;
 pub use line::explain_event;
 pub use script::{explain_text, explain_with};

@@ -1,5 +1,6 @@
 pub mod CutLemmas
 pub mod LineLemmas
 pub mod NumberLemmas
+mod RecordLemmas
 pub mod WordLemmas
 pub mod CallerLemmas

@@ -1,14 +1,13 @@
 // Tracing a script, from its text to an exit status.
 ghost use Rattle.std.specs.Prelude.{◌≡◌, ◌≢◌, true, IfNone, IfSome};
 ghost use Rattle.hv_check.specs.Legal.{IsLegalOf};
+ghost use Rattle.hv_explain.specs.Followed.{HasFollowedText};
 ghost use Rattle.hv_explain.specs.Written.{HasExplainedText};
-ghost use Rattle.hv_follow.specs.Followed.{HasFollowedText};
 ghost use Rattle.hv_trace.specs.Trace.{traces};
 
 use crate::lines::Lines;
 use crate::object::Tracer;
-use hv_explain::explain_with;
-use hv_follow::follow_with;
+use hv_explain::{explain_with, follow_with};
 use hv_run::{Exit, Failure, tell};
 use std::alloc::Global;
 use std::io::Write;
@@ -16,7 +15,7 @@ use std::io::Write;
 /// Runs a script, and writes a JSON object about each event in a line on `out`.
 ///
 /// Without an audit the events are those of the script's lines, one after another, as `explain_text` of
-/// `hv_explain` runs them. With an audit they are its events, as `follow_text` of `hv_follow` takes them. If
+/// `hv_explain` runs them. With an audit they are its events, as `follow_text` of that crate takes them. If
 /// not everything runs, this function writes what those two write.
 pub fn trace_text<W: Write, E: Write>(
     alloc: Global,

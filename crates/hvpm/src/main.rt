@@ -3,10 +3,9 @@
 //!
 //! [`hv_options::command`] parses the command line. Each command has its own crate, with an entry point that
 //! takes the bytes of its files and two writers: `hv_run` runs a script and prints its audit, `hv_check`
-//! compares an audit with a script, `hv_explain` and `hv_follow` describe the events in words, `hv_trace`
-//! writes them as JSON, `hv_serve` answers line by line, `hv_draw` draws a state or a sequence chart, and
-//! `hv_asm` reads scripts by names. This crate only reads the command line and the files, and returns the
-//! exit status.
+//! compares an audit with a script, `hv_explain` describes the events in words, `hv_trace` writes them as
+//! JSON, `hv_serve` answers line by line, `hv_draw` draws a state or a sequence chart, and `hv_asm` reads
+//! scripts by names. This crate only reads the command line and the files, and returns the exit status.
 #![tactic(auto)]
 
 mod files;
@@ -15,8 +14,7 @@ use crate::files::{read_both, read_named};
 use hv_asm::asm_text;
 use hv_check::check_text;
 use hv_draw::{draw_text, sequence_text};
-use hv_explain::explain_text;
-use hv_follow::follow_text;
+use hv_explain::{explain_text, follow_text};
 use hv_options::{Command, Options, Usage, command};
 use hv_run::{Exit, Failure, run_text, tell, tell_usage};
 use hv_serve::{Form, serve};

@@ -15,7 +15,6 @@ use Rattle.hex.specs.Hex.{IsBytes, encode_lower, encode_with, lower_digits}
 use Rattle.hv_policy.specs.declared.event.Action.{Action}
 use Rattle.hv_policy.specs.declared.event.Action.TheVariants as action
 use Rattle.hv_policy.specs.declared.event.Caller.{Caller}
-use Rattle.hv_record.specs.Recorded.{IsInRange, IsRecordable, hex_text, input_text, line_text, spaced, words_by}
 use Rattle.hv_script.proofs.CutLemmas.{choose}
 use Rattle.hv_script.proofs.NumberLemmas.{hex_bytes, hex_number, hex_said, hex_test, narrower_number, no_bytes, plain_number, read_digits}
 use Rattle.hv_script.proofs.WordLemmas.{is_good, word_is_good}
@@ -23,6 +22,7 @@ use Rattle.hv_script.specs.Callers.{callers_of, have_room}
 use Rattle.hv_script.specs.Cursor.{is_of_word}
 use Rattle.hv_script.specs.Line.{action_of, processor_of}
 use Rattle.hv_script.specs.Number.{bytes_in, decimal_in, fitting, number_in}
+use Rattle.hv_script.specs.Recorded.{IsInRange, IsRecordable, hex_text, input_text, line_text, spaced, words_by}
 use Rattle.hv_script.specs.Script.{SoFar, later_line, processor_line, read_line, with_line}
 use Rattle.hv_script.specs.Words.{begins_with, has_good_bytes, is_skipped, words_of}
 

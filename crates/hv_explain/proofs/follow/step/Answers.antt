@@ -1,5 +1,5 @@
-use Rattle.hv_follow.proofs.Following.{followed_one}
-use Rattle.hv_follow.proofs.follow.step.Goals as goal
+use Rattle.hv_explain.proofs.Following.{followed_one}
+use Rattle.hv_explain.proofs.follow.step.Goals as goal
 
 pub returns-in-Some-behind_last-clause-followed : goal.returns-in-Some-behind_last-clause-followed
 returns-in-Some-behind_last-clause-followed g c =

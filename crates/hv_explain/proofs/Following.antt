@@ -4,8 +4,8 @@ use Rattle.std.specs.Io.KnownBytes.{Keeps}
 use Rattle.std.proofs.KnownBytes.{Appends-kept, Appends-nil}
 use Rattle.hv_check.specs.Legal.{AreLines, IsEnd}
 use Rattle.hv_explain.proofs.Written.{told_then}
+use Rattle.hv_explain.specs.Followed.{HasFollowed, IsFollowed}
 use Rattle.hv_explain.specs.Written.{AreTold, HasWritten, HasWrittenOne, Telling, entry_of}
-use Rattle.hv_follow.specs.Followed.{HasFollowed, IsFollowed}
 use Rattle.hv_history.specs.Kept.{IsRun, Kept}
 use Rattle.hv_history.specs.declared.entry.Entry.{Entry}
 use Rattle.hv_policy.specs.declared.config.Config.{Config}

@@ -2,15 +2,17 @@
 ghost use Rattle.std.specs.Prelude.{◌≡◌, ◌≢◌, ◌<◌, true, IfErr, IfOk, OnOk, length};
 ghost use Rattle.std.specs.Io.KnownBytes.{Appends};
 ghost use Rattle.hv_check.specs.Legal.{IsLegal, IsLegalOf};
+ghost use Rattle.hv_explain.specs.Followed.{HasFollowed, HasFollowedText, IsFollowed};
 ghost use Rattle.hv_explain.specs.Written.{explains};
-ghost use Rattle.hv_follow.specs.Followed.{HasFollowed, HasFollowedText, IsFollowed};
 ghost use Rattle.hv_run.specs.Failure.{exit_of};
 ghost use Rattle.hv_run.specs.declared.failure.Exit.TheVariants as exit;
 ghost use Rattle.hv_script.specs.Reading.{said};
 
-use crate::line::{behind_last, is_end};
+use crate::audit::{behind_last, is_end};
+use crate::explainer::Explainer;
+use crate::line::explain_event;
+use crate::teller::Teller;
 use hv_check::{Replay, check_text};
-use hv_explain::{Explainer, Teller, explain_event};
 use hv_history::Kept;
 use hv_policy::{BootRefused, Caller};
 use hv_run::{Exit, Failure, tell};

@@ -1,7 +1,7 @@
 use Rattle.std.proofs.Common.{◌≡◌, ℕ, length, true, ap, ◌∙◌, subst}
 use Rattle.hv_check.specs.Legal.{IsEnd}
-use Rattle.hv_follow.proofs.Following.{followed, so_far_more, so_far_none}
-use Rattle.hv_follow.proofs.follow.follow.Goals as goal
+use Rattle.hv_explain.proofs.Following.{followed, so_far_more, so_far_none}
+use Rattle.hv_explain.proofs.follow.follow.Goals as goal
 use Rattle.hv_script.specs.Reading.{said}
 
 pub loop-by-init : goal.loop-by-init

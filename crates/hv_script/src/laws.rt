@@ -1,20 +1,10 @@
-//! Events as lines of a script.
-//!
-//! [`script_line`] writes an action of a virtual processor as a line of a script. An embedder can run again
-//! what it recorded this way. The law [`is_read_back`] says that a script's reader takes the line for that
-//! processor and that action.
-#![tactic(auto)]
-
+// What a reader makes of a recorded line.
 ghost use Rattle.std.specs.Prelude.{◌≡◌, true, Ok, Some};
 ghost use Rattle.hv_policy.specs.declared.event.Action.{Action};
 ghost use Rattle.hv_policy.specs.declared.event.Caller.{Caller};
-ghost use Rattle.hv_record.specs.Recorded.{IsRecordable, line_text};
 ghost use Rattle.hv_script.specs.Callers.{callers_of, have_room};
+ghost use Rattle.hv_script.specs.Recorded.{IsRecordable, line_text};
 ghost use Rattle.hv_script.specs.Script.{SoFar, read_line, with_line};
-
-mod line;
-
-pub use line::script_line;
 
 /// A recorded line reads back as that processor's line with that action.
 ///

@@ -1,7 +1,7 @@
 // The line of an event.
 ghost use Rattle.std.specs.Prelude.{◌≡◌, ◌++◌, ◌∷◌, [], false, IfOk, OnOk, codes, decimal};
 ghost use Rattle.std.specs.Fmt.{digits};
-ghost use Rattle.hv_record.specs.Recorded.{hex_text, input_text, line_text, spaced, words_by};
+ghost use Rattle.hv_script.specs.Recorded.{hex_text, input_text, line_text, spaced, words_by};
 
 use hv_abi::Frame;
 use hv_policy::{Action, Caller};
