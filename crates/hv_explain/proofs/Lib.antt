@@ -2,4 +2,4 @@ pub mod Written
 pub mod Whole
 pub mod Lines
 mod Following
-mod Last
+mod LastEntry

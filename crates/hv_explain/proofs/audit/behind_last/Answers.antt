@@ -1,5 +1,5 @@
 use Rattle.std.proofs.Common.{◌≡◌, ◌<◌, ◌-◌, ℕ, List, ◌++◌, length, ap, ◌∙◌, subst, arith, append_assoc, Some, codes, slice_get, Global}
-use Rattle.hv_explain.proofs.Last.{last_is, some_then}
+use Rattle.hv_explain.proofs.LastEntry.{last_is, some_then}
 use Rattle.hv_explain.proofs.audit.behind_last.Goals as goal
 use Rattle.hv_history.specs.History.{entry_by}
 use Rattle.hv_history.specs.declared.entry.Entry.{Entry}
