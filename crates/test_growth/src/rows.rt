@@ -56,7 +56,7 @@ partition 1 parent - Active mask 000000f700000044 loose 20 pooled 12 inuse 6 vps
 partition 2 parent 1 Created mask 0000003000000044 loose 0 pooled 0 inuse 0 vps 0 ports 0 connections 0
 pages 32
 ",
-    blocks: &[10, 1, 0],
+    blocks: &[10, 3, 0],
     wants: &[0],
 };
 
@@ -86,7 +86,7 @@ partition 4 parent 1 Created mask 0000003000000044 loose 0 pooled 0 inuse 0 vps 
 partition 5 parent 1 Created mask 0000003000000044 loose 0 pooled 0 inuse 0 vps 0 ports 0 connections 0
 pages 32
 ",
-    blocks: &[10, 3, 2, 2, 1],
+    blocks: &[10, 5, 2, 2, 1],
     wants: &[0, 1, 2, 3],
 };
 
@@ -119,7 +119,7 @@ events 8
 partition 1 parent - Active mask 000000f700000044 loose 20 pooled 12 inuse 4 vps 1 ports 0 connections 0
 pages 32
 ",
-    blocks: &[10, 2, 0, 0, 1, 0, 1, 0],
+    blocks: &[10, 4, 0, 0, 1, 0, 1, 0],
     wants: &[0, 1],
 };
 
@@ -144,7 +144,7 @@ partition 1 parent - Active mask 000000f700000044 loose 20 pooled 12 inuse 6 vps
 partition 2 parent 1 Created mask 0000003000000044 loose 0 pooled 0 inuse 0 vps 0 ports 0 connections 0
 pages 32
 ",
-    blocks: &[10, 2, 0, 0],
+    blocks: &[10, 4, 0, 0],
     wants: &[0, 1],
 };
 
@@ -171,7 +171,7 @@ events 5
 partition 1 parent - Active mask 000000f700000044 loose 1 pooled 11 inuse 4 vps 1 ports 0 connections 0
 pages 12
 ",
-    blocks: &[4, 8, 1, 0, 2],
+    blocks: &[4, 10, 1, 0, 2],
     wants: &[0, 1, 2],
 };
 
@@ -215,7 +215,7 @@ partition 2 parent 1 Active mask 000000f700000044 loose 0 pooled 6 inuse 6 vps 1
 partition 3 parent 2 Created mask 0000003000000044 loose 0 pooled 0 inuse 0 vps 0 ports 0 connections 0
 pages 32
 ",
-    blocks: &[10, 1, 0, 1, 2, 0, 0, 0, 2, 2, 3, 0, 0],
+    blocks: &[10, 3, 0, 1, 2, 0, 0, 0, 2, 2, 3, 0, 0],
     wants: &[0, 3, 9, 10],
 };
 
@@ -265,7 +265,7 @@ partition 1 parent - Active mask 000000f700000044 loose 14 pooled 12 inuse 7 vps
 partition 2 parent 1 Active mask 0000003000000044 loose 0 pooled 6 inuse 5 vps 1 ports 1 connections 0
 pages 32
 ",
-    blocks: &[10, 1, 1, 0, 2, 0, 0, 0, 4, 1, 1, 0, 0, 0, 0, 0],
+    blocks: &[10, 3, 1, 0, 2, 0, 0, 0, 4, 1, 1, 0, 0, 0, 0, 0],
     wants: &[0, 2, 8, 9, 10],
 };
 
@@ -332,7 +332,7 @@ partition 1 parent - Active mask 000000f700000044 loose 14 pooled 12 inuse 7 vps
 partition 2 parent 1 Active mask 0000003000000044 loose 0 pooled 6 inuse 5 vps 1 ports 1 connections 0
 pages 32
 ",
-    blocks: &[10, 1, 1, 0, 2, 0, 0, 0, 4, 1, 1, 0, 0, 0, 0, 19, 2, 1, 0],
+    blocks: &[10, 3, 1, 0, 2, 0, 0, 0, 4, 1, 1, 0, 0, 0, 0, 19, 2, 1, 0],
     wants: &[0, 2, 8, 9, 10, 15],
 };
 
