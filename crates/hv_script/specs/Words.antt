@@ -1,8 +1,7 @@
 -- The lines of a text, and the words of a line.
-use Rattle.std.specs.Prelude.{ℕ, ◌≡◌, ◌+◌, ◌<◌, ◌≤◌, ◌==◌, ◌&&◌, ◌||◌, ◌∷◌, not, nat_eq, nat_le, List, []}
-use Rattle.std.specs.Prelude.{length, filter, codes, slice_index_or, Bool, true, false, Option, None, Some}
-use Rattle.std.specs.Prelude.{get_or}
-use Rattle.std.specs.List.{before_first, list_all, slice_split, starts_with}
+use Rattle.std.specs.Prelude.{ℕ, ◌==◌, ◌&&◌, ◌||◌, not, nat_eq, nat_le, List, []}
+use Rattle.std.specs.Prelude.{length, filter, codes, slice_index_or, Bool}
+use Rattle.std.specs.List.{list_all, slice_split, starts_with}
 use Rattle.std.specs.Str.{bytes_eq}
 
 -- the lines, which end at a line feed or at the end of the text

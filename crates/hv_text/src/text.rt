@@ -92,6 +92,8 @@ impl Text {
     }
 
     // Adds a number in decimal.
+    // Inlined: calls for the own id in bench/largest.sh.
+    #[inline(always)]
     pub(crate) fn push_decimal(&mut self, number: u64)
         requires { length self.old + MOST_DIGITS ≤ LINE }
         ensures text { self.new ≡ self.old ++ decimal number }
