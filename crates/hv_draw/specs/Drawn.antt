@@ -4,50 +4,17 @@ use Rattle.std.specs.Prelude.{Some, Ok}
 use Rattle.std.specs.FinMap.{entries, keys}
 use Rattle.std.specs.Io.KnownBytes.{Appends}
 use Rattle.std.specs.declared.alloc.Global.{Global}
-use Rattle.hv_defs.specs.declared.sizes.TheConstants.{REPS_END}
 use Rattle.hv_history.specs.Kept.{IsRun, Kept}
 use Rattle.hv_history.specs.declared.entry.Entry.{Entry}
 use Rattle.hv_partition.specs.Partition.{PartitionState}
 use Rattle.hv_phases.specs.Lines.{AreInOrder}
-use Rattle.hv_policy.specs.declared.event.Action.{Action}
-use Rattle.hv_policy.specs.declared.event.Action.TheVariants.{Hypercall, ReadMsr, WriteMsr, ReadSlot}
-use Rattle.hv_policy.specs.declared.event.Action.TheVariants.{ClearSlot, ReadFlags, ClearFlag, TakeInterrupt}
-use Rattle.hv_policy.specs.declared.event.Caller.{Caller}
 use Rattle.hv_script.specs.Script.{Said, script_of}
 use Rattle.hv_script.specs.declared.line.Line.{Line}
 use Rattle.hv_shared.specs.ByCaller.{receipts_by}
-use Rattle.hv_threads.specs.Perform.{IsStopped, IsWhole}
+use Rattle.hv_threads.specs.Perform.{IsStopped}
 use Rattle.hv_refine.specs.Room.{roomless}
 use Rattle.hv_tree.specs.Rows.{Rows}
 use Rattle.hv_draw.specs.Graph.{AreBlocks, head_text}
-
--- the action is an access
-abbrev pub AsksAccess : Action Global → Type 0
-AsksAccess (Hypercall frame) = ⊥
-AsksAccess (ReadMsr msr) = Unit {0}
-AsksAccess (WriteMsr msr value) = Unit {0}
-AsksAccess (ReadSlot sint) = Unit {0}
-AsksAccess (ClearSlot sint) = Unit {0}
-AsksAccess (ReadFlags sint) = Unit {0}
-AsksAccess (ClearFlag sint flag) = Unit {0}
-AsksAccess TakeInterrupt = Unit {0}
-
--- the action came to its end, or there are so many entries and it would go on
-abbrev pub HasEnded : Caller → Action Global → ℕ → List (Entry Global) → Type 0
-HasEnded by what most own =
-    ((n : ℕ) → IsWhole by what (receipts_by by n own))
-    ⊎ ((length own ≡ most) × ((n : ℕ) → IsStopped by what (receipts_by by n own)))
-
--- the history gains the entries of one action, all by this processor, and at most so many
-pub record HasDone (by : Caller) (what : Action Global) (most : ℕ) (old new : Kept Global) : Type 0 where
-  pub own : List (Entry Global)
-  pub history : new.history ≡ old.history ++ own
-  pub theirs : All (λ e. e.event.by ≡ by) own
-  pub ended : HasEnded by what most own
-  pub within : length own ≤ most
-  pub few : length own ≤ REPS_END
-  pub config : new.config ≡ old.config
-  pub limit : new.limit ≡ old.limit
 
 -- the first entries of the next of these lines, or none. An action that came to its end has more
 abbrev pub IsPart : ℕ → List (Line Global) → List (Entry Global) → Type 0

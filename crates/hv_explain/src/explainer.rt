@@ -15,15 +15,15 @@ use std::alloc::Global;
 use std::io;
 use std::io::Write;
 
-/// Writes a line about each event: its number and its processor as in the audit, and in words what happened.
+// Writes a line about each event: its number and its processor as in the audit, and in words what happened.
 #[derive(Drop)]
-pub struct Explainer {
+pub(crate) struct Explainer {
     room: Words,
 }
 
 impl Explainer {
-    /// Creates a teller of explanations.
-    pub fn new() -> Explainer {
+    // Creates a teller of explanations.
+    pub(crate) fn new() -> Explainer {
         Explainer { room: Words::new() }
     }
 }

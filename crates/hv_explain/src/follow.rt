@@ -9,8 +9,8 @@ ghost use Rattle.hv_run.specs.declared.failure.Exit.TheVariants as exit;
 ghost use Rattle.hv_script.specs.Reading.{said};
 
 use crate::audit::{behind_last, is_end};
+use crate::event::explain_event;
 use crate::explainer::Explainer;
-use crate::line::explain_event;
 use crate::teller::Teller;
 use hv_check::{Replay, check_text};
 use hv_history::Kept;

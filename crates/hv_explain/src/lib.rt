@@ -13,24 +13,21 @@
 //! `specs/Followed.antt` says what is printed.
 //!
 //! A [`Teller`] decides what is written about an event. It gets the event's effect, which is that of its
-//! step. [`Explainer`] writes the words, and other crates have tellers of their own. [`explain_with`] runs a
-//! script with any teller, and [`follow_with`] takes the events of an audit with any teller.
-//! [`explain_event`] takes one event, for callers that take events in another order. [`explain_last`]
-//! explains the last event of a history that was taken before.
+//! step. This crate's own writes the words, and other crates have tellers of their own. [`explain_with`] runs
+//! a script with any teller, and [`follow_with`] takes the events of an audit with any teller.
+//! [`explain_last`] explains the last event of a history that was taken before.
 #![tactic(auto)]
 
 mod audit;
+mod event;
 mod explainer;
 mod follow;
 mod last;
-mod line;
 mod run;
 mod script;
 mod teller;
 
-pub use explainer::Explainer;
 pub use follow::{follow_text, follow_with};
 pub use last::explain_last;
-pub use line::explain_event;
 pub use script::{explain_text, explain_with};
 pub use teller::Teller;

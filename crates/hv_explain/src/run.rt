@@ -5,7 +5,7 @@ ghost use Rattle.hv_policy.specs.declared.event.Action.TheVariants.{Hypercall};
 ghost use Rattle.hv_run.specs.Failure.{exit_of};
 ghost use Rattle.hv_explain.specs.Written.{HasWrittenAll, HasWrittenElement, HasWrittenLines};
 
-use crate::line::explain_event;
+use crate::event::explain_event;
 use crate::teller::Teller;
 use hv_abi::Frame;
 use hv_history::{Kept, next_of};

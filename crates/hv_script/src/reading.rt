@@ -1,6 +1,6 @@
 // Reading a script line by line.
-ghost use Rattle.std.specs.Prelude.{◌≡◌, ◌≤◌, All};
-ghost use Rattle.hv_script.specs.Callers.{callers_of, is_among};
+ghost use Rattle.std.specs.Prelude.{◌≡◌, ◌≢◌, ◌≤◌, All, IfErr, OnErr, OnOk, false, true};
+ghost use Rattle.hv_script.specs.Callers.{callers_of, have_room, is_among, with_caller};
 
 use crate::boot::{Boot, read_boot};
 use crate::cut::CutLine;
@@ -123,12 +123,7 @@ impl<A: Allocator + Clone> Reading<A> {
     {
         // Room for the line comes first, so nothing fails after the processor is added.
         self.lines.reserve(1).map_err(|_| FaultKind::Memory)?;
-        if !is_among(&self.callers, by) {
-            if self.callers.len() >= MOST_PROCESSORS {
-                return Err(FaultKind::TooMany);
-            }
-            self.callers.push(by).map_err(|_| FaultKind::Memory)?;
-        }
+        admit(&mut self.callers, by)?;
         self.lines.push_reserved(Line {
             phase: self.phase,
             by,
@@ -138,7 +133,24 @@ impl<A: Allocator + Clone> Reading<A> {
     }
 }
 
-// Whether a processor is one of these.
+/// Counts a processor among those of a phase, if there is room for it.
+pub fn admit<A: Allocator>(callers: &mut Vec<Caller, A>, by: Caller) -> Result<(), FaultKind>
+    ensures room { OnOk result (have_room callers.old.items by ≡ true) }
+    ensures counted { OnOk result (callers.new.items ≡ with_caller callers.old.items by) }
+    ensures many { IfErr result (λ kind. kind ≢ FaultKind.Memory
+        → (kind ≡ FaultKind.TooMany) × (have_room callers.old.items by ≡ false)) }
+    ensures same { OnErr result (callers.new.items ≡ callers.old.items) }
+{
+    if is_among(callers, by) {
+        return Ok(());
+    }
+    if callers.len() >= MOST_PROCESSORS {
+        return Err(FaultKind::TooMany);
+    }
+    callers.push(by).map_err(|_| FaultKind::Memory)
+}
+
+// Returns whether a processor is one of these.
 #[tactic(auto, using(std::proofs::lemmas::List::Folds::list_any_at))]
 fn is_among(callers: &[Caller], by: Caller) -> bool
     ensures { result ≡ is_among callers.now by }

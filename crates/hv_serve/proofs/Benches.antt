@@ -1,8 +1,10 @@
 -- What lines do to a booted machine and its phase.
-use Rattle.std.proofs.Common.{◌≡◌, ◌==◌, ◌≤◌, ℕ, ◌+◌, Bool, true, false, cond, List, [], ◌∷◌, length, refl, sym, ap, ◌∙◌, subst, arith, append-nil, Option, Some, None, Result, Ok, Err, inl, inr}
+use Rattle.std.proofs.Common.{◌≡◌, ◌==◌, ◌<◌, ◌≤◌, ℕ, ◌+◌, Bool, true, false, cond, List, [], ◌∷◌, length, refl, sym, ap, ◌∙◌, subst, arith, append-nil, Option, Some, None, Result, Ok, Err, inl, inr}
 use Rattle.std.proofs.Common.{codes, MatchResult, is_some, Global}
 use Rattle.std.proofs.lemmas.List.Elements.{All-nil, All-push}
+use Rattle.hv_defs.specs.declared.sizes.TheConstants.{REPS_END}
 use Rattle.hv_history.specs.Kept.{IsRun, Kept}
+use Rattle.hv_history.specs.declared.entry.Entry.{Entry}
 use Rattle.hv_history.specs.declared.kept.HostRefused.{HostRefused}
 use Rattle.hv_policy.specs.BootFault.{IsBootRefusal}
 use Rattle.hv_policy.specs.declared.config.BootRefused.{BootRefused}
@@ -19,7 +21,6 @@ use Rattle.hv_script.specs.declared.fault.FaultKind.{FaultKind}
 use Rattle.hv_script.specs.declared.fault.FaultKind.TheVariants as kind
 use Rattle.hv_script.specs.declared.line.Line.{Line}
 use Rattle.hv_serve.proofs.Law.{done-nothing}
-use Rattle.hv_serve.specs.Acts.{HasActed, WasStopped}
 use Rattle.hv_serve.specs.Bench.{AsksFor, HasBecome, HasTaken, IsBench, IsOutcomeOf, StandsFor, reads}
 use Rattle.hv_serve.specs.Meant.{Meant, Reads}
 use Rattle.hv_serve.specs.Outcome.{outcome_of_boot}
@@ -27,6 +28,9 @@ use Rattle.hv_serve.specs.Session.{Becomes, HasCome, HasDone, HasStopped, Served
 use Rattle.hv_serve.specs.declared.bench.Bench.{Bench}
 use Rattle.hv_serve.specs.declared.outcome.Outcome.{Outcome}
 use Rattle.hv_serve.specs.declared.outcome.Outcome.TheVariants.{Done, Table, Peek, Explain, Fault, Boot, Host}
+use Rattle.hv_shared.specs.ByCaller.{receipts_by}
+use Rattle.hv_threads.specs.Acted.{AreUpTo, HasActed, WasStopped}
+use Rattle.hv_threads.specs.Perform.{IsWhole}
 
 come_nothing : (bench : Option Bench) (before : Option Served) → StandsFor bench before → HasCome before before
 come_nothing None None stands = tt
@@ -202,6 +206,12 @@ no_room bench served words by what is named asked room =
 pub still : (old new : Bench) (served : Served) → IsBench old served → new.kept ≡ old.kept → new.callers.items ≡ old.callers.items → IsBench new served
 still old new served is kept callers = record { kept = kept ∙ is.kept; callers = callers ∙ is.callers; phases = is.phases; run = is.run }
 
+-- where more events may happen than a call has elements, an action that was done came to its end
+to_its_end : (by : Caller) (what : Action Global) (most : ℕ) (own : List (Entry Global)) → REPS_END < most → length own ≤ REPS_END → AreUpTo by what most own → (n : ℕ)
+    → IsWhole by what (receipts_by by n own)
+to_its_end by what most own enough few (inl whole) n = whole n
+to_its_end by what most own enough few (inr part) n = let all = part.0 in absurd (omega arith)
+
 module _ (old new : Bench) (served : Served) (words : List (List ℕ)) (by : Caller) (what : Action Global) (is : IsBench old served) (named : processor_of (word_at words 0) ≡ Ok by)
     (asked : action_of words ≡ Ok what) (room : have_room old.callers.items by ≡ true) (callers : new.callers.items ≡ with_caller old.callers.items by) where
   abbrev line : Line Global
@@ -221,27 +231,27 @@ module _ (old new : Bench) (served : Served) (words : List (List ℕ)) (by : Cal
     run = run;
   }
 
-  done : HasActed by what served.kept new.kept → HasDone served after
-  done acted = record {
+  done : (most : ℕ) → REPS_END < most → HasActed by what most served.kept new.kept → HasDone served after
+  done most enough acted = record {
     lines = line ∷ [];
     own = acted.own;
     read = refl;
     history = acted.history;
-    order = (acted.own, [], sym (append-nil acted.own), acted.by_it, acted.whole, refl);
+    order = (acted.own, [], sym (append-nil acted.own), acted.by_it, to_its_end by what most acted.own enough acted.few acted.ended (length served.kept.history + 1), refl);
     boot = refl;
     config = acted.config;
     limit = acted.limit;
     run = acted.run;
   }
 
-  stopped : (why : HostRefused) → WasStopped by what why served.kept new.kept → HasStopped why served after
-  stopped why stop = record {
+  stopped : (most : ℕ) (why : HostRefused) → WasStopped by what most why served.kept new.kept → HasStopped why served after
+  stopped most why stop = record {
     line = line;
     own = stop.own;
     read = refl;
     history = stop.history;
     by = stop.by_it;
-    part = stop.part;
+    part = stop.part (length served.kept.history + 1);
     full = stop.full;
     boot = refl;
     config = stop.config;
@@ -250,15 +260,16 @@ module _ (old new : Bench) (served : Served) (words : List (List ℕ)) (by : Cal
   }
 
   -- it was done, or the host stopped it
-  pub performed : (outcome : Outcome) → IsOutcomeOf by what old.kept new.kept outcome → HasTaken (Some served) (reads (processor_line served.read words)) (Some new) (Ok outcome)
-  performed Done acted =
-      let from : HasActed by what served.kept new.kept = subst (λ (k : Kept Global). HasActed by what k new.kept) is.kept acted in
-      record { after = Some after; stands = stands acted.run; becomes = (says, done from) }
-  performed Table acted = absurd acted
-  performed (Peek peek) acted = absurd acted
-  performed Explain acted = absurd acted
-  performed (Fault kind) acted = absurd acted
-  performed (Boot why) acted = absurd acted
-  performed (Host why) stop =
-      let from : WasStopped by what why served.kept new.kept = subst (λ (k : Kept Global). WasStopped by what why k new.kept) is.kept stop in
-      record { after = Some after; stands = stands stop.run; becomes = inr (says, stopped why from) }
+  pub performed : (most : ℕ) → REPS_END < most → (outcome : Outcome) → IsOutcomeOf by what most old.kept new.kept outcome
+      → HasTaken (Some served) (reads (processor_line served.read words)) (Some new) (Ok outcome)
+  performed most enough Done acted =
+      let from : HasActed by what most served.kept new.kept = subst (λ (k : Kept Global). HasActed by what most k new.kept) is.kept acted in
+      record { after = Some after; stands = stands acted.run; becomes = (says, done most enough from) }
+  performed most enough Table acted = absurd acted
+  performed most enough (Peek peek) acted = absurd acted
+  performed most enough Explain acted = absurd acted
+  performed most enough (Fault kind) acted = absurd acted
+  performed most enough (Boot why) acted = absurd acted
+  performed most enough (Host why) stop =
+      let from : WasStopped by what most why served.kept new.kept = subst (λ (k : Kept Global). WasStopped by what most why k new.kept) is.kept stop in
+      record { after = Some after; stands = stands stop.run; becomes = inr (says, stopped most why from) }

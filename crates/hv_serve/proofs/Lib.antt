@@ -1,4 +1,3 @@
-pub mod Acts
 pub mod Answered
 pub mod Becoming
 pub mod Benches

@@ -6,15 +6,12 @@ use Rattle.hv_phases.specs.Lines.{AreInOrder, AreRun, asked_by}
 use Rattle.hv_policy.specs.declared.event.Action.{Action}
 use Rattle.hv_policy.specs.declared.event.Caller.{Caller}
 use Rattle.hv_script.specs.declared.line.Line.{Line}
-use Rattle.hv_shared.proofs.Callers.{is_itself, same_caller}
+use Rattle.hv_shared.proofs.Callers.{same_caller}
 use Rattle.hv_shared.specs.ByCaller.{is_caller, receipts_by}
 use Rattle.hv_shared.specs.Pass.{receipt}
 use Rattle.hv_shared.specs.declared.receipts.Receipt.{Receipt}
+use Rattle.hv_threads.proofs.OwnReceipts.{IsBy, receipts-append}
 use Rattle.hv_threads.specs.Perform.{AreWhole, IsWhole}
-
--- the entry is this caller's
-abbrev pub IsBy : Caller → Entry Global → Type 0
-IsBy by e = e.event.by ≡ by
 
 -- what was done for some lines, and then for others
 pub order-append : (n : ℕ) (xs ys : List (Line Global)) (es fs : List (Entry Global)) → AreInOrder n xs es → AreInOrder (n + length es) ys fs → AreInOrder n (xs ++ ys) (es ++ fs)
@@ -31,27 +28,13 @@ order-append n (x ∷ xs) ys es fs some more =
       order-append (n + length some.0) xs ys some.1 fs some.5 (subst (λ (k : ℕ). AreInOrder k ys fs) at more),
     )
 
-behind : (b : Bool) (r : Receipt) (xs ys zs : List Receipt) → zs ≡ xs ++ ys → (if b then r ∷ zs else zs) ≡ (if b then r ∷ xs else xs) ++ ys
-behind true r xs ys zs is = ap (λ (l : List Receipt). r ∷ l) is
-behind false r xs ys zs is = is
-
-pub receipts-append : (by : Caller) (n : ℕ) (xs ys : List (Entry Global)) → receipts_by by n (xs ++ ys) ≡ receipts_by by n xs ++ receipts_by by (n + length xs) ys
-receipts-append by n [] ys = ap (λ (k : ℕ). receipts_by by k ys) (omega arith)
-receipts-append by n (e ∷ xs) ys =
-    behind (is_caller by e.event.by) (receipt n e.event e.reply) (receipts_by by (n + 1) xs) (receipts_by by (n + length (e ∷ xs)) ys) (receipts_by by (n + 1) (xs ++ ys))
-    (receipts-append by (n + 1) xs ys ∙ ap (λ (k : ℕ). receipts_by by (n + 1) xs ++ receipts_by by k ys) (omega arith))
-
--- another's entries, and its own
+-- another's entries
 receipts_of_other : (by other : Caller) → is_caller by other ≡ false → (n : ℕ) (es : List (Entry Global)) → All (IsBy other) es → receipts_by by n es ≡ []
 receipts_of_other by other apart n [] all = refl
 receipts_of_other by other apart n (e ∷ es) all =
     ap (λ (b : Bool). if b then receipt n e.event e.reply ∷ receipts_by by (n + 1) es else receipts_by by (n + 1) es)
     (ap (is_caller by) (All-head (IsBy other) e es all) ∙ apart)
     ∙ receipts_of_other by other apart (n + 1) es (All-tail (IsBy other) e es all)
-
-pub own_first : (by : Caller) (n : ℕ) (e : Entry Global) (es : List (Entry Global)) → e.event.by ≡ by → receipts_by by n (e ∷ es) ≡ receipt n e.event e.reply ∷ receipts_by by (n + 1) es
-own_first by n e es own =
-    ap (λ (b : Bool). if b then receipt n e.event e.reply ∷ receipts_by by (n + 1) es else receipts_by by (n + 1) es) (is_itself by e.event.by own)
 
 abbrev asked : Line Global → Action Global
 asked line = line.action

@@ -12,8 +12,8 @@ use Rattle.hv_script.specs.Script.{SoFar, read_words}
 use Rattle.hv_script.specs.declared.fault.FaultKind.{FaultKind}
 use Rattle.hv_script.specs.declared.fault.FaultKind.TheVariants.{Memory}
 use Rattle.hv_history.specs.declared.kept.HostRefused.TheVariants as host
+use Rattle.hv_threads.specs.Acted.{HasActed, WasStopped}
 use Rattle.hv_words.specs.Words.{IsPlain}
-use Rattle.hv_serve.specs.Acts.{HasActed, WasStopped}
 use Rattle.hv_serve.specs.Meant.{Asks, Explains, Meant, Peeks, Reads, request_line, request_of}
 use Rattle.hv_serve.specs.Session.{Becomes, Served, answer_of, shown_of}
 use Rattle.hv_serve.specs.declared.bench.Bench.{Bench}
@@ -68,15 +68,15 @@ abbrev pub HasTaken : Option Served → Result Meant FaultKind → Option Bench 
 HasTaken before says bench (Ok outcome) = HasBecome before says outcome bench
 HasTaken before says bench (Err kind) = StandsFor bench before × (kind ≢ Memory → says ≡ Err kind)
 
--- the outcome of a processor's line, which was done or stopped
-abbrev pub IsOutcomeOf : Caller → Action Global → Kept Global → Kept Global → Outcome → Type 0
-IsOutcomeOf by what old new Done = HasActed by what old new
-IsOutcomeOf by what old new Table = ⊥
-IsOutcomeOf by what old new (Peek peek) = ⊥
-IsOutcomeOf by what old new Explain = ⊥
-IsOutcomeOf by what old new (Fault kind) = ⊥
-IsOutcomeOf by what old new (Boot why) = ⊥
-IsOutcomeOf by what old new (Host why) = WasStopped by what why old new
+-- the outcome of a processor's line, which was done with at most so many events, or stopped
+abbrev pub IsOutcomeOf : Caller → Action Global → ℕ → Kept Global → Kept Global → Outcome → Type 0
+IsOutcomeOf by what most old new Done = HasActed by what most old new
+IsOutcomeOf by what most old new Table = ⊥
+IsOutcomeOf by what most old new (Peek peek) = ⊥
+IsOutcomeOf by what most old new Explain = ⊥
+IsOutcomeOf by what most old new (Fault kind) = ⊥
+IsOutcomeOf by what most old new (Boot why) = ⊥
+IsOutcomeOf by what most old new (Host why) = WasStopped by what most why old new
 
 -- the outcome of a line that asks for something, and the line's meaning
 abbrev pub AsksFor : Outcome → Result Meant FaultKind → Type 0

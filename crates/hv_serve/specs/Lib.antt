@@ -1,4 +1,3 @@
-pub mod Acts
 pub mod Bench
 pub mod Input
 pub mod Json

@@ -1,24 +1,22 @@
 // A booted machine, and the effect of its lines.
-ghost use Rattle.std.specs.Prelude.{◌≡◌, ◌≢◌, ◌≤◌, Option, Some, None, IfErr, OnErr, OnOk};
-ghost use Rattle.std.specs.Prelude.{All, List, ℕ, length, true, false};
-ghost use Rattle.hv_script.specs.Callers.{have_room, is_among, with_caller};
+ghost use Rattle.std.specs.Prelude.{◌≡◌, ◌≢◌, ◌≤◌, Option, Some, None};
+ghost use Rattle.std.specs.Prelude.{All, List, ℕ, length};
 ghost use Rattle.hv_script.specs.Cursor.{line_of};
 ghost use Rattle.hv_script.specs.Script.{first_line, later_line, phase_line, processor_line, read_words};
 ghost use Rattle.hv_script.specs.declared.script.TheConstants.{MOST_BYTES as MOST};
-ghost use Rattle.hv_serve.specs.Acts.{HasTried};
 ghost use Rattle.hv_serve.specs.Bench.{HasBecome, HasTaken, IsBench, IsOutcomeOf, StandsFor, reads};
 ghost use Rattle.hv_serve.specs.Bench.{words_say};
 ghost use Rattle.hv_serve.specs.Input.{AreKept};
 ghost use Rattle.hv_serve.specs.Meant.{meant};
 ghost use Rattle.hv_serve.specs.Session.{Served, read_of};
 
-use crate::calls::act;
 use crate::form::Form;
 use crate::outcome::{Outcome, outcome_of, refused_boot};
 use crate::request::Request;
 use hv_history::Kept;
 use hv_policy::{Action, Caller};
-use hv_script::{CutLine, FaultKind, MOST_PROCESSORS, action, processor, read_boot};
+use hv_script::{CutLine, FaultKind, action, admit, processor, read_boot};
+use hv_threads::act;
 use std::alloc::Global;
 
 // A booted machine with its history.
@@ -155,49 +153,18 @@ impl Bench {
     {
         let by = processor(line.word(0))?;
         let action = action(&alloc, line)?;
-        self.admit(by)?;
+        admit(&mut self.callers, by)?;
         Ok(self.perform(by, action))
     }
 
-    // Counts a processor among those of the phase, if there is room for it.
-    fn admit(&mut self, by: Caller) -> Result<(), FaultKind>
-        ensures room { OnOk result (have_room self.old.callers.items by ≡ true) }
-        ensures counted { OnOk result (self.new.callers.items ≡ with_caller self.old.callers.items by) }
-        ensures many { IfErr result (λ kind. kind ≢ FaultKind.Memory
-            → (kind ≡ FaultKind.TooMany) × (have_room self.old.callers.items by ≡ false)) }
-        ensures same { OnErr result (self.new.callers.items ≡ self.old.callers.items) }
-        ensures kept { self.new.kept ≡ self.old.kept }
-    {
-        if is_among(&self.callers, by) {
-            return Ok(());
-        }
-        if self.callers.len() >= MOST_PROCESSORS {
-            return Err(FaultKind::TooMany);
-        }
-        self.callers.push(by).map_err(|_| FaultKind::Memory)
-    }
-
-    // Runs an action to its end, unless the host refuses it.
+    // Runs an action to its end, unless the host refuses it. No action has as many events as `u32::MAX`.
     fn perform(&mut self, by: Caller, action: Action<Global>) -> Outcome
-        ensures acted { IsOutcomeOf by action self.old.kept self.new.kept result }
+        ensures acted { IsOutcomeOf by action u32.MAX self.old.kept self.new.kept result }
         ensures callers { self.new.callers.items ≡ self.old.callers.items }
     {
-        match act(&mut self.kept, by, action) {
+        match act(&mut self.kept, by, action, u32::MAX) {
             Ok(()) => Outcome::Done,
             Err(why) => Outcome::Host(why),
         }
     }
-}
-
-// Returns whether a processor is one of these.
-#[tactic(auto, using(std::proofs::lemmas::List::Folds::list_any_at))]
-fn is_among(callers: &[Caller], by: Caller) -> bool
-    ensures { result ≡ is_among callers.now by }
-{
-    for at in 0..callers.len() {
-        if callers[at] == by {
-            return true;
-        }
-    }
-    false
 }

@@ -11,7 +11,6 @@
 
 mod answer;
 mod bench;
-mod calls;
 mod form;
 mod input;
 mod json;

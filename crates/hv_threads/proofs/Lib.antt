@@ -1,2 +1,4 @@
+pub mod ActOutcomes
+pub mod OwnReceipts
 pub mod Phases
 pub mod Working

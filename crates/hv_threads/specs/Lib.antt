@@ -1,2 +1,3 @@
+pub mod Acted
 pub mod Perform
 pub mod Phase

@@ -1,13 +1,46 @@
 // One action to its end.
-ghost use Rattle.std.specs.Prelude.{OnOk, OnErr};
+ghost use Rattle.std.specs.Prelude.{◌<◌, OnOk, OnErr};
+ghost use Rattle.hv_threads.specs.Acted.{HasTried};
 ghost use Rattle.hv_threads.specs.Perform.{HasBegun, HasPerformed};
 
-use hv_history::HostRefused;
-use hv_policy::Action;
+use hv_history::{HostRefused, Kept};
+use hv_policy::{Action, Caller, Event};
 use hv_shared::{Gate, Pass, Shared};
 use std::alloc::Global;
 use std::sync::Wait;
 use std::sync::ledger::Ledger;
+
+/// Runs one action of a processor on a machine that one thread owns.
+///
+/// An access is one event. A hypercall is an event per element, from the frame's start index on, and at most
+/// 4,096. It stops after `most` events, even if it would go on. `Err` says why the host refused an event; the
+/// events before that one stay in the history.
+pub fn act(
+    kept: &mut Kept<Global>,
+    by: Caller,
+    action: Action<Global>,
+    most: u32,
+) -> Result<(), HostRefused>
+    requires { 0 < most }
+    ensures { HasTried by action most kept.old kept.new result }
+{
+    match action {
+        Action::Hypercall(frame) => match kept.apply_run(by, frame, most).last {
+            Ok(_) => Ok(()),
+            Err(why) => Err(why),
+        },
+        Action::ReadMsr(_)
+        | Action::WriteMsr(_, _)
+        | Action::ReadSlot(_)
+        | Action::ClearSlot(_)
+        | Action::ReadFlags(_)
+        | Action::ClearFlag(_, _)
+        | Action::TakeInterrupt => match kept.apply(Event { by, what: action }) {
+            Ok(_) => Ok(()),
+            Err(why) => Err(why),
+        },
+    }
+}
 
 // Performs one action to its end: drives a hypercall, and calls for anything else.
 pub(crate) fn perform<L: Ledger, R: Wait, G: Gate>(

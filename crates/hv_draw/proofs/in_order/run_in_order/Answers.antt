@@ -14,4 +14,4 @@ loop-line-preserved c =
     let before = c.len.ensures ∙ ap length c.history.ensures.list in
     let room = subst (λ (n : ℕ). AreMost c.args.at n c.events_to-most.result) before (record { none = c.events_to-most.ensures.none; some = c.events_to-most.ensures.some }) in
     running_more c.args.at c.args.lines.items c.loop-line.left.items c.pop.new.self.items c.in-Some.line c.args.kept.now c.loop-line.kept c.events_to-most.result c.in-Some.ensures.items room
-    c.perform.new.kept c.in_ok-perform.ensures (omega (arith, c.if-most-eq0.false)) c.loop-line.invariant
+    c.act.new.kept c.in_ok-act.ensures (omega (arith, c.if-most-eq0.false)) c.loop-line.invariant

@@ -1,10 +1,9 @@
-use Rattle.std.proofs.Common.{◌≡◌, ◌≤◌, true, false, [], ◌∷◌, ◌++◌, refl, sym, ap, ◌∙◌, arith, rules, tests}
+use Rattle.std.proofs.Common.{◌≡◌, ◌≤◌, [], ◌∷◌, ◌++◌, refl, sym, ap, ◌∙◌, arith, rules}
 use Rattle.std.proofs.lemmas.List.Elements.{All-push}
-use Rattle.hv_script.specs.Callers.{callers_of, is_among, with_caller}
+use Rattle.hv_script.specs.Callers.{callers_of, with_caller}
 use Rattle.hv_script.specs.declared.line.Line.{Line}
 use Rattle.hv_script.proofs.CallerLemmas.{one_more_caller}
 use Rattle.hv_script.proofs.reading.Reading.take_line.Goals as goal
-use Rattle.hv_script.proofs.reading.Reading.take_line.Goals.{then-not-is_among+else-len-ge-MOST_PROCESSORS+in_ok-map_err-2, else-not-is_among}
 
 pub invariant_of-self-2 : goal.invariant_of-self-2
 invariant_of-self-2 g c =
@@ -14,14 +13,6 @@ invariant_of-self-2 g c =
     let callers : callers_of self.phase (self.lines.items ++ line ∷ []) ≡ with_caller self.callers.items c.args.by =
     one_more_caller self.phase self.lines.items line refl ∙ ap (λ callers. with_caller callers c.args.by) (sym self.named) in
     record {
-      named = elim c.if-not-is_among.branch [
-        | then-not-is_among+else-len-ge-MOST_PROCESSORS+in_ok-map_err-2 w ↦
-            let new : is_among self.callers.items c.args.by ≡ false = search (rules, tests) in
-            let more : w.push.new.self.items ≡ self.callers.items ++ c.args.by ∷ [] = search rules in
-            rw (w.self-is, pushed, more, callers, new) refl
-        | else-not-is_among w ↦
-            let known : is_among self.callers.items c.args.by ≡ true = search (rules, tests) in
-            rw (w.self-is, pushed, callers, known) refl
-      ];
+      named = rw (pushed, callers) c.in_ok-admit.ensures.counted;
       phases = rw pushed (All-push (λ line. line.phase ≤ self.phase) self.lines.items line self.phases (omega arith));
     }

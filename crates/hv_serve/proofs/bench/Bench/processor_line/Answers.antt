@@ -1,8 +1,7 @@
-use Rattle.std.proofs.Common.{◌∙◌, ap, subst, sym, Err, Global}
+use Rattle.std.proofs.Common.{◌∙◌, ◌<◌, ℕ, ap, arith, refl, sym, Err}
 use Rattle.std.proofs.lemmas.Result.{err_from_is_err_and}
-use Rattle.hv_history.specs.Kept.{Kept}
+use Rattle.hv_defs.specs.declared.sizes.TheConstants.{REPS_END}
 use Rattle.hv_script.specs.Line.{processor_of}
-use Rattle.hv_serve.specs.Bench.{IsOutcomeOf}
 use Rattle.hv_serve.proofs.Benches.{bad_action, bad_processor, no_room, performed, still}
 use Rattle.hv_serve.proofs.bench.Bench.processor_line.Goals as goal
 
@@ -25,7 +24,7 @@ returns-in_err-admit c =
     let refused = c.in_err-admit.ensures in
     rw (p.1, p.2)
     (λ served is. (
-      still c.args.self.now c.admit.new.self served is refused.kept refused.same,
+      still c.args.self.now _ served is refl refused.same,
       λ apart. no_room c.args.self.now served words c.in_ok-by.by c.in_ok-action.action is (ap processor_of (sym c.word.ensures) ∙ sym c.in_ok-by.ensures) c.in_ok-action.ensures (refused.many apart).1
           ∙ ap Err (sym (refused.many apart).0),
     ))
@@ -38,6 +37,8 @@ returns c =
     let old = c.args.self.now in
     let new = c.perform.new.self in
     let admitted = c.in_ok-admit.ensures in
+    let most : ℕ = 4294967295 in
+    let enough : REPS_END < most = omega arith in
     λ served is. performed old new served words by what is (ap processor_of (sym c.word.ensures) ∙ sym c.in_ok-by.ensures) c.in_ok-action.ensures admitted.room
-    (c.perform.ensures.callers ∙ admitted.counted) c.perform.result
-    (subst (λ (k : Kept Global). IsOutcomeOf by what k new.kept c.perform.result) admitted.kept c.perform.ensures.acted)
+    (c.perform.ensures.callers ∙ admitted.counted) most enough c.perform.result
+    c.perform.ensures.acted

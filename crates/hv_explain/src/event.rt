@@ -14,11 +14,11 @@ use hv_run::{Exit, Failure};
 use std::alloc::Global;
 use std::io::{ErrorKind, Write};
 
-/// Takes an event, lets the teller write about it, and returns its reply.
-///
-/// `Err` if the host refuses the event, which then changes nothing, if there is no memory for the text, or if
-/// it can't be written.
-pub fn explain_event<T: Teller, W: Write>(
+// Takes an event, lets the teller write about it, and returns its reply.
+//
+// `Err` if the host refuses the event, which then changes nothing, if there is no memory for the text, or if
+// it can't be written.
+pub(crate) fn explain_event<T: Teller, W: Write>(
     kept: &mut Kept<Global>,
     by: Caller,
     what: &Action<Global>,

@@ -1,6 +1,6 @@
 use Rattle.std.proofs.Common.{length, ap, ◌∙◌}
 use Rattle.hv_explain.proofs.Written.{told_one}
-use Rattle.hv_explain.proofs.line.explain_event.Goals as goal
+use Rattle.hv_explain.proofs.event.explain_event.Goals as goal
 
 pub returns-in-Ok-clause-told : goal.returns-in-Ok-clause-told
 returns-in-Ok-clause-told g c =
