@@ -133,7 +133,8 @@ impl<A: Allocator + Clone> Reading<A> {
     }
 }
 
-/// Counts a processor among those of a phase, if there is room for it.
+/// Counts a processor among those of a phase, if there is room for it: `TooMany` where 64 others are
+/// there, `Memory` where their list can't grow. On an error the list is unchanged.
 pub fn admit<A: Allocator>(callers: &mut Vec<Caller, A>, by: Caller) -> Result<(), FaultKind>
     ensures room { OnOk result (have_room callers.old.items by ≡ true) }
     ensures counted { OnOk result (callers.new.items ≡ with_caller callers.old.items by) }
