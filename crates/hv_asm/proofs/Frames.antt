@@ -19,7 +19,7 @@ use Rattle.hv_policy.specs.Call.{called}
 use Rattle.hv_script.specs.Line.{◌>>=◌}
 use Rattle.hv_script.specs.Words.{word_at}
 use Rattle.hv_script.specs.declared.fault.FaultKind.TheVariants.{Number}
-use Rattle.hv_asm.proofs.Held.{block, fixed_fast, holds_list, is_header}
+use Rattle.hv_asm.proofs.ListContents.{block, fixed_fast, holds_list, is_header}
 use Rattle.hv_asm.proofs.Registers.{both_bytes, number_bytes, one_register, registers, two_registers, zero_bytes}
 use Rattle.hv_asm.specs.Frame.{fast_bit, fast_frame, frame_of, listed_frame, rcx_of, twelve_bits}
 use Rattle.hv_asm.specs.List.{elements_of, list_of}

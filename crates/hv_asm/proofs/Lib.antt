@@ -1,5 +1,5 @@
 pub mod Frames
-pub mod Held
+pub mod ListContents
 pub mod Lists
 pub mod Registers
 pub mod Texts

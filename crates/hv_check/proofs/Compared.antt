@@ -1,5 +1,5 @@
 -- A line beside the policy's.
-use Rattle.std.proofs.Common.{◌≡◌, ℕ, ◌+◌, ◌<◌, ◌≢◌, List, [], ◌∷◌, ◌++◌, refl, sym, ap, ◌∙◌, subst, arith, append_assoc, append-nil, length, length-append, take, drop, get_or, Bool, true, false}
+use Rattle.std.proofs.Common.{◌≡◌, ℕ, ◌+◌, ◌<◌, ◌≢◌, [], ◌∷◌, ◌++◌, refl, sym, ap, ◌∙◌, subst, arith, append_assoc, length, length-append, drop, get_or, Bool, true, false}
 use Rattle.std.proofs.Common.{Option, None, Some, inl, inr, ◌⊎◌, All, codes, IfNone, IfSome, OnOk, Result, Ok, Err, is_some, nat_eq, Global}
 use Rattle.std.specs.Cmp.Lexicographic.{bytes_decides, pointwise}
 use Rattle.std.proofs.lemmas.Bool.{false≢true}
@@ -14,11 +14,11 @@ use Rattle.hv_policy.specs.declared.reply.Reply.{Reply}
 use Rattle.hv_policy.specs.declared.reply.Reply.TheVariants.{Served, More, Denied, Fault}
 use Rattle.hv_policy.specs.declared.rule.Rule.{Rule}
 use Rattle.hv_text.specs.Audit.{entry_text, reply_text, result_text}
-use Rattle.hv_check.specs.Legal.{IsBareLine, IsLine, IsName, IsTail, bare_reply_text, bare_text}
+use Rattle.hv_check.specs.Legal.{IsLine, IsName, IsTail, bare_reply_text, bare_text}
 use Rattle.hv_check.specs.Parted.{IsAround, IsNowhere}
 use Rattle.hv_check.specs.Tail.{IsBehindName, name_in}
-use Rattle.hv_check.proofs.Sorted.{All-right}
-use Rattle.hv_check.proofs.Texts.{Bytes, IsNot, bare_front, entry_front, front, parted}
+use Rattle.hv_phases.proofs.LinesByPhase.{All-right}
+use Rattle.hv_check.proofs.LineTexts.{Bytes, IsNot, bare_front, entry_front, front}
 
 module _ {T : Type 0} where
   pub some_map : (o : Option T) (P Q : T → Type 0) → ((t : T) → P t → Q t) → IfSome o P → IfSome o Q

@@ -1,20 +1,20 @@
 -- Taking lines event by event is doing them phase by phase.
-use Rattle.std.proofs.Common.{◌≡◌, ℕ, ◌<◌, ◌≤◌, List, [], ◌∷◌, ◌++◌, refl, sym, ap, ◌∙◌, subst, arith, append_assoc, append-nil, Bool, true, false, cond, inl, inr, ◌⊎◌, map, All, Global}
+use Rattle.std.proofs.Common.{◌≡◌, ℕ, ◌<◌, ◌≤◌, [], ◌∷◌, ◌++◌, refl, sym, ap, ◌∙◌, subst, arith, append_assoc, append-nil, Bool, true, false, cond, inl, inr, ◌⊎◌, All, Global}
 use Rattle.std.proofs.lemmas.Bool.{false≢true}
-use Rattle.std.proofs.lemmas.List.Elements.{All-append, All-cons, All-head, All-nil, All-tail, All-weaker}
+use Rattle.std.proofs.lemmas.List.Elements.{All-append, All-cons, All-head, All-nil, All-weaker}
 use Rattle.hv_history.specs.declared.entry.Entry.{Entry}
 use Rattle.hv_phases.specs.Lines.{AreApart, ArePhased, AreRun, HasCut, asked_by}
-use Rattle.hv_phases.proofs.Asked.{asked_by-append}
+use Rattle.hv_phases.proofs.AskedOfProcessor.{Actions, Lines, asked_by-append, asked_first}
 use Rattle.hv_policy.specs.declared.event.Caller.{Caller}
 use Rattle.hv_script.specs.declared.line.Line.{Line}
-use Rattle.hv_shared.proofs.Callers.{is_another, is_itself, same_caller}
+use Rattle.hv_shared.proofs.Callers.{is_itself, same_caller}
 use Rattle.hv_shared.specs.ByCaller.{is_caller}
-use Rattle.hv_check.specs.Read.{AreSorted}
+use Rattle.hv_phases.specs.Read.{AreSorted}
 use Rattle.hv_check.specs.Takes.{IsNext, Takes, action_left, line_left}
-use Rattle.hv_check.proofs.Leaves.{Actions, AreAll, Entries, IsInTurn, own_of}
-use Rattle.hv_check.proofs.Next.{AreRuns, Lines, asked_behind, asked_first, asked_of_others, back, run, run_of, runs_of}
-use Rattle.hv_check.proofs.Sorted.{All-both, All-left, All-right, Beyond, Cuts, IsFrom, PartsAt, Within, apart_at, cuts, late_lefts, lefts_all, parts_at, sorted_across, sorted_before, sorted_lefts}
-use Rattle.hv_check.proofs.Sorted.{sorted_other, sorted_right}
+use Rattle.hv_check.proofs.RemainingActions.{AreAll, Entries, IsInTurn, own_of}
+use Rattle.hv_check.proofs.NextEvent.{AreRuns, asked_behind, asked_of_others, back, run, run_of, runs_of}
+use Rattle.hv_phases.proofs.LinesByPhase.{All-both, All-left, All-right, Cuts, IsFrom, PartsAt, apart_at, cuts, late_lefts, lefts_all, parts_at, sorted_before}
+use Rattle.hv_phases.proofs.LinesByPhase.{sorted_lefts, sorted_other, sorted_right}
 
 -- each reply to a call says that it continues with the element after its own, if it continues
 abbrev pub AreInTurn : Entries → Type 0

@@ -1,9 +1,8 @@
 -- The lines of a script that was read stand by rising phases, and the numbers of their processors fit.
-use Rattle.std.proofs.Common.{◌≡◌, ℕ, ◌+◌, ◌<◌, ◌≤◌, ◌^◌, List, [], ◌∷◌, ◌++◌, refl, sym, ap, ◌∙◌, subst, arith, length, Bool, true, false, cond, Option, None, Some, Result, Ok, Err, All, nat_lt}
+use Rattle.std.proofs.Common.{◌≡◌, ℕ, ◌+◌, ◌<◌, ◌≤◌, ◌^◌, List, [], ◌∷◌, ◌++◌, refl, ap, subst, arith, Bool, true, false, cond, Option, None, Some, Result, Ok, Err, All, nat_lt}
 use Rattle.std.proofs.Common.{ok_or, Global}
-use Rattle.std.specs.List.{after_first, before_first}
 use Rattle.std.proofs.lemmas.Bool.Decides.{nat_tests}
-use Rattle.std.proofs.lemmas.List.Elements.{All-append, All-cons, All-head, All-nil, All-push, All-tail, All-weaker}
+use Rattle.std.proofs.lemmas.List.Elements.{All-head, All-nil, All-push, All-tail, All-weaker}
 use Rattle.hv_policy.specs.declared.event.Action.{Action}
 use Rattle.hv_policy.specs.declared.event.Caller.{Caller}
 use Rattle.hv_script.specs.Line.{◌>>=◌, action_of, boot_of, processor_of}
@@ -14,7 +13,7 @@ use Rattle.hv_script.specs.declared.fault.FaultKind.{FaultKind}
 use Rattle.hv_script.specs.declared.fault.FaultKind.TheVariants.{Byte}
 use Rattle.hv_script.specs.declared.fault.ScriptFault.{ScriptFault}
 use Rattle.hv_script.specs.declared.line.Line.{Line}
-use Rattle.hv_check.specs.Read.{AreRead, AreSorted, IsNamed}
+use Rattle.hv_phases.specs.Read.{AreRead, AreSorted, IsNamed}
 
 -- what comes of two steps, both of which went well
 bound : {T S E : Type 0} (r : Result T E) (next : T → Result S E) (s : S) → (r >>= next) ≡ Ok s → (t : T) × (r ≡ Ok t) × (next t ≡ Ok s)

@@ -1,5 +1,5 @@
 -- What a run fixes: the replies, and how a call continues.
-use Rattle.std.proofs.Common.{◌≡◌, ℕ, ◌+◌, ◌<◌, List, [], ◌∷◌, ◌++◌, refl, sym, ap, ◌∙◌, subst, arith, Global}
+use Rattle.std.proofs.Common.{◌≡◌, ◌+◌, List, [], ◌∷◌, ◌++◌, sym, ap, ◌∙◌, subst, arith, Global}
 use Rattle.hv_abi.specs.declared.frame.Frame.{Frame}
 use Rattle.hv_history.specs.Kept.{IsRun, Kept}
 use Rattle.hv_history.specs.Row.{events_of, replies_of}
@@ -15,7 +15,7 @@ use Rattle.hv_policy.specs.declared.event.Action.TheVariants.{Hypercall, ReadMsr
 use Rattle.hv_policy.specs.declared.event.Event.{Event}
 use Rattle.hv_policy.specs.declared.reply.Reply.{Reply}
 use Rattle.hv_policy.specs.declared.reply.Reply.TheVariants.{Served, More, Denied, Fault}
-use Rattle.hv_check.proofs.Leaves.{Entries, IsInTurn}
+use Rattle.hv_check.proofs.RemainingActions.{Entries, IsInTurn}
 use Rattle.hv_check.proofs.Phases.{AreInTurn}
 
 call_turn : (frame : Frame Global) (reply : Reply) → GoesOn (Hypercall frame) reply → IsMore reply → GoesOnAt (start_of frame + 1) reply

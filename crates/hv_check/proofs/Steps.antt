@@ -1,5 +1,5 @@
 -- A step of a check.
-use Rattle.std.proofs.Common.{◌≡◌, ℕ, ◌+◌, ◌<◌, ◌≢◌, ◌^◌, List, [], ◌∷◌, ◌++◌, refl, sym, ap, ◌∙◌, subst, arith, length, length-append, Bool, true, false, Option, None, Some, codes, Global}
+use Rattle.std.proofs.Common.{◌≡◌, ℕ, ◌+◌, ◌<◌, ◌≢◌, ◌^◌, [], ◌∷◌, ◌++◌, refl, sym, ap, ◌∙◌, subst, arith, length, length-append, Bool, true, false, None, Some, codes, Global}
 use Rattle.hv_history.specs.Kept.{HasGained, IsRun, Kept}
 use Rattle.hv_history.specs.declared.entry.Entry.{Entry}
 use Rattle.hv_policy.specs.Next.{GoesOn}
@@ -10,12 +10,11 @@ use Rattle.hv_policy.specs.declared.reply.Reply.{Reply}
 use Rattle.hv_text.specs.Audit.{entry_text}
 use Rattle.hv_check.specs.From.{HasMoved, IsLegalFrom, IsNamedIn, IsNoEnd}
 use Rattle.hv_check.specs.Legal.{IsLine, bare_text}
-use Rattle.hv_check.specs.Replay.{IsBegun, StandsFor, after_reply, first_of, later_of, left_by}
-use Rattle.hv_check.specs.declared.replay.Replay.{Replay}
-use Rattle.hv_check.proofs.Leaves.{Actions}
-use Rattle.hv_check.proofs.Moves.{Took, claims_full, claims_none, differs, idle, moved}
-use Rattle.hv_check.proofs.Next.{Lines}
-use Rattle.hv_check.proofs.Texts.{Bytes}
+use Rattle.hv_phases.specs.Schedule.{IsBegun, StandsFor, after_reply, first_of, later_of, left_by}
+use Rattle.hv_phases.specs.declared.schedule.Schedule.{Schedule}
+use Rattle.hv_check.proofs.AfterLine.{Took, claims_full, claims_none, differs, idle, moved}
+use Rattle.hv_check.proofs.LineTexts.{Bytes}
+use Rattle.hv_phases.proofs.AskedOfProcessor.{Actions, Lines}
 
 -- the rest behind the first of some actions
 pub first_some : (acts : Actions) (a : Action Global) → first_of acts ≡ Some a → (rest : Actions) × (acts ≡ a ∷ rest)
@@ -33,7 +32,7 @@ line_shorter false number e text rest is =
     let n = ap length is.all in omega (arith, n, length-append (bare_text number e) (is.tail ++ (codes "\n" ++ rest)), length-append is.tail (codes "\n" ++ rest))
 
 -- A line whose event the machine took.
-module _ (rules : Bool) (old_kept new_kept : Kept Global) (old new : Replay) (text : Bytes) (event : Event Global) (reply : Reply)
+module _ (rules : Bool) (old_kept new_kept : Kept Global) (old new : Schedule) (text : Bytes) (event : Event Global) (reply : Reply)
     (few : length old_kept.history < 2 ^ 32) (go_on : IsNoEnd text) (reads : (c : Caller) → IsNamedIn text c → c ≡ event.by) (asked : first_of (left_by event.by old) ≡ Some event.what)
     (gained : HasGained event reply old_kept new_kept) (run : IsRun new_kept) (goes : GoesOn event.what reply)
     (own : left_by event.by new ≡ after_reply (left_by event.by old) reply) (others : (c : Caller) → c ≢ event.by → left_by c new ≡ left_by c old) (later : later_of new ≡ later_of old) where
@@ -69,16 +68,17 @@ module _ (rules : Bool) (old_kept new_kept : Kept Global) (old new : Replay) (te
       differs rules old_kept new_kept old new text event.by event.what some.0 reply (took some) lines stands
       (λ rest line. none rest (subst (λ (n : ℕ). IsLine rules n entry text rest) (sym count_is) line)) prefix
 
-pub step_full : (rules : Bool) (k : Kept Global) (old : Replay) (text : Bytes) (by : Caller) → length k.history < 2 ^ 32 → IsNoEnd text → ((c : Caller) → IsNamedIn text c → c ≡ by) → length k.history
+pub step_full : (rules : Bool) (k : Kept Global) (old : Schedule) (text : Bytes) (by : Caller) → length k.history < 2 ^ 32 → IsNoEnd text → ((c : Caller) → IsNamedIn text c → c ≡ by)
+    → length k.history
     ≡ k.limit
     → (lines : Lines) → StandsFor old lines → (prefix : Bool) → IsLegalFrom prefix rules k lines text → ⊥
 step_full rules k old text by few go_on reads full lines stands prefix is = claims_full prefix rules k lines text stands.read few go_on by reads full is
 
-pub step_idle : (rules : Bool) (k : Kept Global) (old : Replay) (text : Bytes) (by : Caller) → length k.history < 2 ^ 32 → IsNoEnd text → ((c : Caller) → IsNamedIn text c → c ≡ by) → IsBegun old →
+pub step_idle : (rules : Bool) (k : Kept Global) (old : Schedule) (text : Bytes) (by : Caller) → length k.history < 2 ^ 32 → IsNoEnd text → ((c : Caller) → IsNamedIn text c → c ≡ by) → IsBegun old →
     first_of (left_by by old) ≡ None
     → (lines : Lines) → StandsFor old lines → (prefix : Bool) → IsLegalFrom prefix rules k lines text → ⊥
 step_idle rules k old text by few go_on reads begun none lines stands prefix is = idle prefix rules k old lines text by stands begun (first_none (left_by by old) none) few go_on reads is
 
-pub step_unread : (rules : Bool) (k : Kept Global) (old : Replay) (text : Bytes) → length k.history < 2 ^ 32 → IsNoEnd text → ((c : Caller) → IsNamedIn text c → None ≡ Some c)
+pub step_unread : (rules : Bool) (k : Kept Global) (old : Schedule) (text : Bytes) → length k.history < 2 ^ 32 → IsNoEnd text → ((c : Caller) → IsNamedIn text c → None ≡ Some c)
     → (lines : Lines) → StandsFor old lines → (prefix : Bool) → IsLegalFrom prefix rules k lines text → ⊥
 step_unread rules k old text few go_on reads lines stands prefix is = claims_none prefix rules k lines text stands.read few go_on (λ c named. let same = reads c named in cc) is

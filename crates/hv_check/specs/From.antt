@@ -1,5 +1,5 @@
 -- Legality of the rest of an audit, line by line.
-use Rattle.std.specs.Prelude.{ℕ, ◌≡◌, ◌+◌, ◌<◌, ◌^◌, Bool, true, false, List, [], ◌∷◌, ◌++◌, length, codes}
+use Rattle.std.specs.Prelude.{ℕ, ◌≡◌, ◌+◌, ◌<◌, ◌^◌, Bool, true, false, List, [], ◌++◌, length, codes}
 use Rattle.std.specs.Prelude.{decimal}
 use Rattle.std.specs.declared.alloc.Global.{Global}
 use Rattle.hv_history.specs.Kept.{Kept, IsRun}
@@ -7,11 +7,11 @@ use Rattle.hv_history.specs.declared.entry.Entry.{Entry}
 use Rattle.hv_policy.specs.declared.event.Caller.{Caller}
 use Rattle.hv_script.specs.declared.line.Line.{Line}
 use Rattle.hv_check.specs.Legal.{AreLines, IsEnd, IsLine, end_text}
-use Rattle.hv_check.specs.Replay.{StandsFor}
+use Rattle.hv_phases.specs.Schedule.{StandsFor}
 use Rattle.hv_check.specs.Takes.{Takes}
 use Rattle.hv_check.specs.declared.ending.Ending.{Ending}
 use Rattle.hv_check.specs.declared.ending.Ending.TheVariants.{Good, Bad}
-use Rattle.hv_check.specs.declared.replay.Replay.{Replay}
+use Rattle.hv_phases.specs.declared.schedule.Schedule.{Schedule}
 use Rattle.hv_check.specs.declared.step.Step.{Step}
 use Rattle.hv_check.specs.declared.step.Step.TheVariants.{On, Not}
 
@@ -55,7 +55,7 @@ IsNoLine text = (rules : Bool) (number : ℕ) (entry : Entry Global) (rest : Lis
     rules number entry text rest → ⊥
 
 -- after a line, the rest of the audit is legal exactly if the text was legal before it
-pub record HasMoved (rules : Bool) (old_kept new_kept : Kept Global) (new : Replay)
+pub record HasMoved (rules : Bool) (old_kept new_kept : Kept Global) (new : Schedule)
     (lines : List (Line Global)) (text rest : List ℕ) : Type 0 where
   pub left : List (Line Global)
   pub stands : StandsFor new left
@@ -65,7 +65,7 @@ pub record HasMoved (rules : Bool) (old_kept new_kept : Kept Global) (new : Repl
       lines text
 
 -- either a line was taken, or no legal audit continues with this text
-abbrev pub IsStep : Bool → Kept Global → Kept Global → Replay → Replay → List ℕ → Step → Type 0
+abbrev pub IsStep : Bool → Kept Global → Kept Global → Schedule → Schedule → List ℕ → Step → Type 0
 IsStep rules old_kept new_kept old new text (On rest) = (lines : List (Line Global)) → StandsFor old lines →
     HasMoved rules old_kept new_kept new lines text rest.now
 IsStep rules old_kept new_kept old new text (Not wrong) = (lines : List (Line Global)) → StandsFor old lines →
@@ -77,10 +77,10 @@ IsShorter text (On rest) = length rest.now < length text
 IsShorter text (Not wrong) = Unit {0}
 
 -- the end of the audit is legal, or it isn't
-abbrev pub IsEnding : Bool → Replay → ℕ → List ℕ → Ending → Type 0
-IsEnding prefix replay events text Good = (lines : List (Line Global)) → StandsFor replay lines → IsOver
+abbrev pub IsEnding : Bool → Schedule → ℕ → List ℕ → Ending → Type 0
+IsEnding prefix schedule events text Good = (lines : List (Line Global)) → StandsFor schedule lines → IsOver
     prefix lines × IsEnd prefix events text
-IsEnding prefix replay events text (Bad wrong) = (lines : List (Line Global)) → StandsFor replay lines →
+IsEnding prefix schedule events text (Bad wrong) = (lines : List (Line Global)) → StandsFor schedule lines →
     IsOver prefix lines → IsEnd prefix events text → ⊥
 
 -- the text is the last line of an audit with this number of events, or it isn't

@@ -1,9 +1,6 @@
 pub mod From
 pub mod Legal
 pub mod Parted
-pub mod Read
-pub mod Replay
 pub mod Tail
 pub mod Takes
-pub mod Turns
 pub mod Verdict

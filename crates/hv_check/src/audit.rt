@@ -7,17 +7,17 @@ ghost use Rattle.hv_run.specs.Failure.{exit_of};
 ghost use Rattle.hv_run.specs.declared.failure.Exit.TheVariants as exit;
 ghost use Rattle.hv_check.specs.From.{IsLegalFrom, IsNoEnd, IsNoLine};
 ghost use Rattle.hv_check.specs.Legal.{IsLegal};
-ghost use Rattle.hv_check.specs.Read.{AreRead};
-ghost use Rattle.hv_check.specs.Replay.{IsBegun, StandsFor};
+ghost use Rattle.hv_phases.specs.Read.{AreRead};
+ghost use Rattle.hv_phases.specs.Schedule.{IsBegun, StandsFor};
 ghost use Rattle.hv_history.specs.Kept.{IsRun};
 ghost use Rattle.hv_check.specs.Verdict.{Says};
 
 use crate::ending::{Ending, end_of};
 use crate::own_line::OwnLine;
-use crate::replay::Replay;
 use crate::step::{Step, take_line};
 use crate::verdict::{Ask, Verdict};
 use hv_history::Kept;
+use hv_phases::Schedule;
 use hv_policy::BootRefused;
 use hv_run::Failure;
 use hv_script::Script;
@@ -50,8 +50,8 @@ pub fn check<'a>(
         Err(BootRefused::Memory) => return Err(Failure::Memory),
         Err(refused) => return Err(Failure::from(refused)),
     };
-    let mut replay = Replay::new(alloc, lines);
-    match follow(&mut kept, &mut replay, own, audit, ask) {
+    let mut schedule = Schedule::new(alloc, lines);
+    match follow(&mut kept, &mut schedule, own, audit, ask) {
         Ok(verdict) => Ok(verdict),
         Err(_) => Err(Failure::Memory),
     }
@@ -60,35 +60,35 @@ pub fn check<'a>(
 // Checks an audit beside all lines of its script. The machine has taken no event yet.
 fn follow<'a>(
     kept: &mut Kept<Global>,
-    replay: &mut Replay,
+    schedule: &mut Schedule,
     own: &mut OwnLine,
     audit: &'a [u8],
     ask: Ask,
 ) -> Result<Verdict<'a>, AllocError>
-    ensures { IfOk result (λ verdict. (lines : List (LineValue GlobalValue)) → StandsFor replay.old lines
+    ensures { IfOk result (λ verdict. (lines : List (LineValue GlobalValue)) → StandsFor schedule.old lines
         → Says verdict (IsLegalFrom ask.prefix ask.rules kept.old lines audit.now)) }
 {
     let mut text = audit;
-    replay.begin()?;
+    schedule.begin()?;
     while is_event(text) {
-        match take_line(kept, replay, own, text, ask.rules)? {
+        match take_line(kept, schedule, own, text, ask.rules)? {
             Step::On(rest) => text = rest,
             Step::Not(wrong) => return Ok(Verdict::Illegal { wrong, text }),
         }
-        replay.begin()?;
+        schedule.begin()?;
     }
-    Ok(finish(kept, replay, text, ask.prefix))
+    Ok(judge(kept, schedule, text, ask.prefix))
 }
 
 // Returns the verdict on the end of an audit, where no line of an event is left.
-fn finish<'a>(kept: &Kept<Global>, replay: &Replay, text: &'a [u8], prefix: bool) -> Verdict<'a>
-    requires begun { IsBegun replay.now }
+fn judge<'a>(kept: &Kept<Global>, schedule: &Schedule, text: &'a [u8], prefix: bool) -> Verdict<'a>
+    requires begun { IsBegun schedule.now }
     requires no_line { IsNoLine text.now }
-    ensures { (rules : Bool) (lines : List (LineValue GlobalValue)) → StandsFor replay.now lines
+    ensures { (rules : Bool) (lines : List (LineValue GlobalValue)) → StandsFor schedule.now lines
         → Says result (IsLegalFrom prefix rules kept.now lines text.now) }
 {
     let events = events_of(kept);
-    match end_of(replay, text, events, prefix) {
+    match end_of(schedule, text, events, prefix) {
         Ending::Good => Verdict::Legal { events },
         Ending::Bad(wrong) => Verdict::Illegal { wrong, text },
     }

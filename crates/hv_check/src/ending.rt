@@ -2,11 +2,11 @@
 ghost use Rattle.std.specs.Prelude.{◌≡◌, ◌++◌, ℕ, List, IfNone, IfSome};
 ghost use Rattle.hv_check.specs.From.{IsEnding, IsLastLine};
 ghost use Rattle.hv_check.specs.Legal.{end_text};
-ghost use Rattle.hv_check.specs.Replay.{IsBegun};
+ghost use Rattle.hv_phases.specs.Schedule.{IsBegun};
 
 use crate::compare::behind;
-use crate::replay::Replay;
 use crate::verdict::Wrong;
+use hv_phases::Schedule;
 use itoa::Buffer;
 
 /// Whether the end of an audit is legal.
@@ -17,9 +17,9 @@ pub enum Ending {
 }
 
 /// Checks whether an audit may end with this text after this number of events.
-pub fn end_of(replay: &Replay, text: &[u8], events: u64, prefix: bool) -> Ending
-    requires { IsBegun replay.now }
-    ensures { IsEnding prefix replay.now events text.now result }
+pub fn end_of(schedule: &Schedule, text: &[u8], events: u64, prefix: bool) -> Ending
+    requires { IsBegun schedule.now }
+    ensures { IsEnding prefix schedule.now events text.now result }
 {
     if prefix {
         return if text.is_empty() {
@@ -28,7 +28,7 @@ pub fn end_of(replay: &Replay, text: &[u8], events: u64, prefix: bool) -> Ending
             last_line(text, events)
         };
     }
-    match replay.waiting() {
+    match schedule.waiting() {
         Some(by) => Ending::Bad(Wrong::Early { by, events }),
         None => last_line(text, events),
     }

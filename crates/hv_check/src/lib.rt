@@ -4,8 +4,7 @@
 //! the script, and returns that it is legal, or the first line that isn't. `IsLegal` of `specs/Legal.antt`
 //! defines legal: some history is a run of the policy from the script's boot, in which each processor's
 //! events are those that its lines ask for, phase by phase, and this history's audit has these bytes.
-//! [`check_text`] takes both texts and returns an exit status. [`Replay`] steps through a script's lines by
-//! named processor.
+//! [`check_text`] takes both texts and returns an exit status.
 //!
 //! Nothing here opens a file. Scripts and audits are this project's own.
 #![tactic(auto)]
@@ -16,16 +15,11 @@ mod ending;
 mod entry;
 mod own_line;
 mod reader;
-mod replay;
 mod step;
 mod tell;
-mod turn;
-mod turning;
 mod verdict;
 
 pub use audit::check;
 pub use entry::check_text;
 pub use own_line::OwnLine;
-pub use replay::Replay;
-pub use turn::Turn;
 pub use verdict::{Ask, Verdict, Wrong};

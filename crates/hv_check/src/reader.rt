@@ -1,5 +1,5 @@
 // Reading the processor that a line of an audit names.
-ghost use Rattle.std.specs.Prelude.{◌≡◌, ◌<◌, ◌^◌, ℕ, ◌==◌, ◌++◌, ◌∷◌, IfNone, IfSome, Some, decimal};
+ghost use Rattle.std.specs.Prelude.{◌≡◌, ◌<◌, ◌^◌, ◌==◌, IfNone, IfSome, Some, decimal};
 ghost use Rattle.std.specs.Prelude.{SomeIff};
 ghost use Rattle.std.specs.Str.Parse.{IsNumeral, digits_value};
 ghost use Rattle.hv_policy.specs.declared.event.Caller.{Caller as CallerValue};

@@ -1,15 +1,15 @@
 // Checking one line of an audit.
 ghost use Rattle.std.specs.Prelude.{◌≡◌, ◌<◌, ◌^◌, IfOk, Some, length};
 ghost use Rattle.hv_check.specs.From.{IsNamedIn, IsNoEnd, IsShorter, IsStep};
-ghost use Rattle.hv_check.specs.Replay.{IsBegun, first_of, left_by};
+ghost use Rattle.hv_phases.specs.Schedule.{IsBegun, first_of, left_by};
 ghost use Rattle.hv_policy.specs.declared.event.Caller.{Caller as CallerValue};
 
 use crate::compare::behind_line;
 use crate::own_line::OwnLine;
 use crate::reader::processor;
-use crate::replay::Replay;
 use crate::verdict::Wrong;
 use hv_history::{HostRefused, Kept};
+use hv_phases::Schedule;
 use hv_policy::{Action, Caller, Event};
 use std::alloc::{AllocError, Global};
 
@@ -28,22 +28,22 @@ pub enum Step<'a> {
 /// of that event.
 pub fn take_line<'a>(
     kept: &mut Kept<Global>,
-    replay: &mut Replay,
+    schedule: &mut Schedule,
     own: &mut OwnLine,
     text: &'a [u8],
     rules: bool,
 ) -> Result<Step<'a>, AllocError>
-    requires begun { IsBegun replay.old }
+    requires begun { IsBegun schedule.old }
     requires line { IsNoEnd text.now }
-    ensures step { IfOk result (IsStep rules kept.old kept.new replay.old replay.new text.now) }
+    ensures step { IfOk result (IsStep rules kept.old kept.new schedule.old schedule.new text.now) }
     ensures shorter { IfOk result (IsShorter text.now) }
 {
     let line = number_of(kept);
     let Some(by) = processor(text) else {
         return Ok(Step::Not(Wrong::Unreadable { line }));
     };
-    match next_of(replay, by)? {
-        Some(what) => take_event(kept, replay, own, text, rules, Event { by, what }),
+    match next_of(schedule, by)? {
+        Some(what) => take_event(kept, schedule, own, text, rules, Event { by, what }),
         None => Ok(Step::Not(Wrong::Idle { line, by })),
     }
 }
@@ -58,10 +58,10 @@ fn number_of(kept: &Kept<Global>) -> u64
 }
 
 // Returns a copy of the next action of a processor.
-fn next_of(replay: &Replay, by: Caller) -> Result<Option<Action<Global>>, AllocError>
-    ensures { IfOk result (λ next. next ≡ first_of (left_by by replay.now)) }
+fn next_of(schedule: &Schedule, by: Caller) -> Result<Option<Action<Global>>, AllocError>
+    ensures { IfOk result (λ next. next ≡ first_of (left_by by schedule.now)) }
 {
-    match replay.next(by) {
+    match schedule.next(by) {
         Some(action) => Ok(Some(action.copy()?)),
         None => Ok(None),
     }
@@ -70,7 +70,7 @@ fn next_of(replay: &Replay, by: Caller) -> Result<Option<Action<Global>>, AllocE
 // Takes an event, and compares the line with the policy's.
 fn take_event<'a>(
     kept: &mut Kept<Global>,
-    replay: &mut Replay,
+    schedule: &mut Schedule,
     own: &mut OwnLine,
     text: &'a [u8],
     rules: bool,
@@ -79,15 +79,15 @@ fn take_event<'a>(
     requires line { IsNoEnd text.now }
     requires few { length kept.old.history < 2 ^ 32 }
     requires by { (by : CallerValue) → IsNamedIn text.now by → by ≡ event.by }
-    requires next { first_of (left_by event.by replay.old) ≡ Some event.what }
-    ensures step { IfOk result (IsStep rules kept.old kept.new replay.old replay.new text.now) }
+    requires next { first_of (left_by event.by schedule.old) ≡ Some event.what }
+    ensures step { IfOk result (IsStep rules kept.old kept.new schedule.old schedule.new text.now) }
     ensures shorter { IfOk result (IsShorter text.now) }
 {
     let by = event.by;
     let line = number_of(kept);
     match kept.apply(event) {
         Ok((_, reply)) => {
-            replay.go_on(by, &reply);
+            schedule.go_on(by, &reply);
             own.put_last(kept);
             match behind_line(text, own.as_slice(), reply.parts().0, rules) {
                 Some(rest) => Ok(Step::On(rest)),

@@ -1,4 +1,4 @@
 mod Blocks
 mod Charting
 mod Drawing
-mod Ran
+mod RunLines

@@ -35,13 +35,13 @@ pub fn draw_text<W: Write, E: Write>(
     ensures no_usage { result ≢ Exit.Usage }
 {
     match parse(alloc, script) {
-        Ok(script) => finish(alloc, script, at, out, err),
+        Ok(script) => draw_or_tell(alloc, script, at, out, err),
         Err(fault) => tell(Failure::from(fault), err),
     }
 }
 
 // Draws a script that has no fault, and writes the reason if not everything runs.
-fn finish<W: Write, E: Write>(
+fn draw_or_tell<W: Write, E: Write>(
     alloc: Global,
     script: Script<Global>,
     at: Option<u64>,

@@ -1,6 +1,6 @@
-pub mod Ended
-pub mod Others
-pub mod Posted
-pub mod Seen
-pub mod Signalled
-pub mod Taken
+pub mod EndOfMessage
+pub mod PagesAndVps
+pub mod PostEffect
+pub mod ProcessorChange
+pub mod FlagEffects
+pub mod SlotAndVectorEffects

@@ -75,7 +75,7 @@ fn flag_parts(flag: Option<FlagChange>) -> (u16, u8, u8)
 }
 
 // Returns the SINT at which one more message waits, as a bit.
-#[tactic(auto, using(hv_effect::proofs::Seen::mask_bit))]
+#[tactic(auto, using(hv_effect::proofs::ProcessorChange::mask_bit))]
 fn waiting_bits(waiting: Option<u8>) -> u16
     ensures { (k : ℕ) → k < MOST_SINTS → has_bit result k ≡ is_number waiting k }
 {

@@ -3,7 +3,7 @@ use Rattle.std.proofs.Common.{◌≡◌, ℕ, ◌+◌, List, [], ◌∷◌, ◌+
 use Rattle.std.specs.Io.KnownBytes.{Keeps}
 use Rattle.std.proofs.KnownBytes.{Appends-kept, Appends-nil}
 use Rattle.hv_check.specs.Legal.{AreLines, IsEnd}
-use Rattle.hv_explain.proofs.Written.{told_then}
+use Rattle.hv_explain.proofs.WrittenLines.{told_then}
 use Rattle.hv_explain.specs.Followed.{HasFollowed, IsFollowed}
 use Rattle.hv_explain.specs.Written.{AreTold, HasWritten, HasWrittenOne, Telling, entry_of}
 use Rattle.hv_history.specs.Kept.{IsRun, Kept}

@@ -1,5 +1,5 @@
-pub mod Written
-pub mod Whole
+pub mod WrittenLines
+pub mod AskedActions
 pub mod Lines
 mod Following
 mod LastEntry

@@ -1,34 +1,18 @@
 -- Lines of a script, one after the other.
-use Rattle.std.proofs.Common.{◌≡◌, ℕ, ◌+◌, List, [], ◌∷◌, ◌++◌, length, refl, sym, ap, ◌∙◌, subst, arith, append_assoc, append-nil, length-append, All, Option, Global}
+use Rattle.std.proofs.Common.{◌≡◌, ℕ, ◌+◌, List, [], ◌∷◌, ◌++◌, length, sym, ap, ◌∙◌, subst, arith, length-append, Option, Global}
 use Rattle.std.specs.Io.KnownBytes.{Keeps}
 use Rattle.std.proofs.KnownBytes.{Appends-kept}
 use Rattle.hv_history.specs.Kept.{IsRun, Kept}
 use Rattle.hv_policy.specs.declared.config.Config.{Config}
 use Rattle.hv_history.specs.declared.entry.Entry.{Entry}
+use Rattle.hv_phases.proofs.PhasedHistories.{order-push}
 use Rattle.hv_phases.specs.Lines.{AreInOrder}
 use Rattle.hv_script.specs.Script.{Said}
 use Rattle.hv_script.specs.declared.line.Line.{Line}
 use Rattle.hv_shared.specs.ByCaller.{receipts_by}
 use Rattle.hv_threads.specs.Perform.{IsWhole}
 use Rattle.hv_explain.specs.Written.{AreTold, HasExplained, HasWrittenAll, HasWrittenLines, Telling}
-use Rattle.hv_explain.proofs.Written.{told_then}
-use Rattle.hv_explain.proofs.Whole.{IsBy}
-
--- what a line asks for is done behind what was done before
-order_push : (n : ℕ) (ran : List (Line Global)) (es : List (Entry Global)) (line : Line Global) (own : List (Entry Global)) → AreInOrder n ran es → All (IsBy line.by) own
-    → IsWhole line.by line.action (receipts_by line.by (n + length es) own) → AreInOrder n (ran ++ line ∷ []) (es ++ own)
-order_push n [] es line own none all whole =
-    let at : n + length es ≡ n = let e = ap length none in omega arith in
-    (own, [], ap (λ (l : List (Entry Global)). l ++ own) none ∙ sym (append-nil own), all, subst (λ (k : ℕ). IsWhole line.by line.action (receipts_by line.by k own)) at whole, refl)
-order_push n (x ∷ ran) es line own some all whole =
-    let at : n + length es ≡ (n + length some.0) + length some.1 = let e = ap length some.2 in omega (arith, length-append some.0 some.1) in (
-      some.0,
-      some.1 ++ own,
-      ap (λ (l : List (Entry Global)). l ++ own) some.2 ∙ append_assoc some.0 some.1 own,
-      some.3,
-      some.4,
-      order_push (n + length some.0) ran some.1 line own some.5 all (subst (λ (k : ℕ). IsWhole line.by line.action (receipts_by line.by k own)) at whole),
-    )
+use Rattle.hv_explain.proofs.WrittenLines.{told_then}
 
 module _ (tells : Telling) (old : Kept Global) (v : Option (List ℕ)) where
   -- one line more
@@ -40,7 +24,7 @@ module _ (tells : Telling) (old : Kept Global) (v : Option (List ℕ)) where
       record {
         more = first.more ++ second.own;
         told = told_then tells first.more second.own old mid new v u w first.told second.told;
-        order = order_push (1 + length old.history) ran first.more line second.own first.order second.all
+        order = order-push (1 + length old.history) ran first.more line second.own first.order second.all
             (subst (λ (k : ℕ). IsWhole line.by line.action (receipts_by line.by k second.own)) at second.whole);
       }
 

@@ -12,8 +12,9 @@ use crate::audit::{behind_last, is_end};
 use crate::event::explain_event;
 use crate::explainer::Explainer;
 use crate::teller::Teller;
-use hv_check::{Replay, check_text};
+use hv_check::check_text;
 use hv_history::Kept;
+use hv_phases::Schedule;
 use hv_policy::{BootRefused, Caller};
 use hv_run::{Exit, Failure, tell};
 use hv_script::{Script, parse, processor};
@@ -59,13 +60,13 @@ pub fn follow_with<T: Teller, W: Write, E: Write>(
 {
     let mut told: Vec<u8> = Vec::new(alloc);
     match check_text(alloc, script, audit, true, true, &mut told, err) {
-        Exit::Done => explain(alloc, teller, script, audit, out, err),
-        exit => show(exit, &told, out, err),
+        Exit::Done => explain_audit(alloc, teller, script, audit, out, err),
+        exit => show_check(exit, &told, out, err),
     }
 }
 
 // Prints the text of a check, and returns its exit status.
-fn show<W: Write, E: Write>(exit: Exit, told: &[u8], out: &mut W, err: &mut E) -> Exit
+fn show_check<W: Write, E: Write>(exit: Exit, told: &[u8], out: &mut W, err: &mut E) -> Exit
     requires done { exit ≢ Exit.Done }
     requires usage { exit ≢ Exit.Usage }
     ensures told { result ≡ Exit.Script → Appends (W.contents out.old) (W.contents out.new) told.now }
@@ -80,7 +81,7 @@ fn show<W: Write, E: Write>(exit: Exit, told: &[u8], out: &mut W, err: &mut E) -
 }
 
 // Tells of the events of a legal audit.
-fn explain<T: Teller, W: Write, E: Write>(
+fn explain_audit<T: Teller, W: Write, E: Write>(
     alloc: Global,
     teller: &mut T,
     script: &[u8],
@@ -94,7 +95,7 @@ fn explain<T: Teller, W: Write, E: Write>(
     ensures no_usage { result ≢ Exit.Usage }
 {
     match parse(alloc, script) {
-        Ok(script) => match follow(alloc, teller, script, audit, out) {
+        Ok(script) => match follow_script(alloc, teller, script, audit, out) {
             Ok(()) => Exit::Done,
             Err(failure) => tell(failure, err),
         },
@@ -104,7 +105,7 @@ fn explain<T: Teller, W: Write, E: Write>(
 
 // Takes the events of an audit, and tells of them. It fails at a line that isn't the policy's, which no legal
 // audit has.
-fn follow<T: Teller, W: Write>(
+fn follow_script<T: Teller, W: Write>(
     alloc: Global,
     teller: &mut T,
     script: Script<Global>,
@@ -126,10 +127,10 @@ fn follow<T: Teller, W: Write>(
         Err(BootRefused::Memory) => return Err(Failure::Memory),
         Err(refused) => return Err(Failure::from(refused)),
     };
-    let mut replay = Replay::new(alloc, lines);
+    let mut schedule = Schedule::new(alloc, lines);
     let mut left = audit;
     while let Some(by) = caller_in(left) {
-        left = step(&mut kept, &mut replay, by, teller, left, out)?;
+        left = follow_event(&mut kept, &mut schedule, by, teller, left, out)?;
     }
     if !is_end(left, kept.history().len() as u64) {
         return Err(Failure::Differs);
@@ -141,9 +142,9 @@ fn follow<T: Teller, W: Write>(
 }
 
 // Takes the next event of a processor, tells of it, and returns the text after its line.
-fn step<'a, T: Teller, W: Write>(
+fn follow_event<'a, T: Teller, W: Write>(
     kept: &mut Kept<Global>,
-    replay: &mut Replay,
+    schedule: &mut Schedule,
     by: Caller,
     teller: &mut T,
     text: &'a [u8],
@@ -155,14 +156,14 @@ fn step<'a, T: Teller, W: Write>(
     ensures shorter { IfOk result (λ rest. length rest.now < length text.now) }
     ensures host { IfErr result (λ failure. exit_of failure ≡ exit.Host) }
 {
-    if replay.begin().is_err() {
+    if schedule.begin().is_err() {
         return Err(Failure::Memory);
     }
-    let Some(action) = replay.next(by) else {
+    let Some(action) = schedule.next(by) else {
         return Err(Failure::Differs);
     };
     let reply = explain_event(kept, by, action, teller, out)?;
-    replay.go_on(by, &reply);
+    schedule.go_on(by, &reply);
     match behind_last(kept, text) {
         Some(rest) => Ok(rest),
         None => Err(Failure::Differs),

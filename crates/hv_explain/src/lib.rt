@@ -5,7 +5,7 @@
 //!
 //! [`explain_text`] runs a script's lines in order and explains each event as it happens. Its contract says
 //! that the events are those of a run, and that each has one line, which begins with its number and its
-//! processor. After the processor comes free text, which `hv_reasons` composes.
+//! processor. After the processor comes free text, which `hv_words` composes.
 //!
 //! [`follow_text`] checks an audit beside its script, as `hv_check` does. It then takes the audit's events
 //! once more, in the audit's order, and explains each in such a line. An audit of threads, or of another

@@ -51,13 +51,13 @@ pub fn explain_with<T: Teller, W: Write, E: Write>(
     ensures no_usage { result ≢ Exit.Usage }
 {
     match parse(alloc, script) {
-        Ok(script) => finish(alloc, teller, script, out, err),
+        Ok(script) => explain_or_tell(alloc, teller, script, out, err),
         Err(fault) => tell(Failure::from(fault), err),
     }
 }
 
 // Runs a script that has no fault, and writes the reason if not everything runs.
-fn finish<T: Teller, W: Write, E: Write>(
+fn explain_or_tell<T: Teller, W: Write, E: Write>(
     alloc: Global,
     teller: &mut T,
     script: Script<Global>,

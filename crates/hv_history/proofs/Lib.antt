@@ -1,4 +1,4 @@
 pub mod Elements
-pub mod Paired
+pub mod PairedHistories
 pub mod Rows
 pub mod Runs

@@ -3,7 +3,7 @@ use Rattle.std.proofs.Common.{◌≡◌, ℕ, ◌≤◌, ◌<◌, List, [], ◌�
 use Rattle.std.proofs.lemmas.List.{length-map}
 use Rattle.std.specs.Option.{option_map_or}
 use Rattle.hv_defs.specs.declared.sizes.TheConstants.{REPS_END}
-use Rattle.hv_invariants.proofs.Counted.{run_few}
+use Rattle.hv_invariants.proofs.ServedCount.{run_few}
 use Rattle.hv_invariants.proofs.Replies.{goes_on}
 use Rattle.hv_policy.specs.Boot.{boot}
 use Rattle.hv_policy.specs.BootFault.{boot_fault}
@@ -19,10 +19,10 @@ use Rattle.hv_policy.specs.declared.event.Action.TheVariants.{Hypercall}
 use Rattle.hv_policy.specs.declared.event.Event.{Event}
 use Rattle.hv_policy.specs.declared.reply.Reply.{Reply}
 use Rattle.hv_policy.specs.declared.reply.Reply.TheVariants.{More}
-use Rattle.hv_provenance.proofs.Runs.{IsKnown, known}
-use Rattle.hv_provenance.proofs.Standing.{mail_of}
-use Rattle.hv_provenance.specs.Operation.{operations_of}
-use Rattle.hv_provenance.specs.Justified.{WerePosted, has_flag}
+use Rattle.hv_security.proofs.ProvenanceOfRuns.{IsKnown, known}
+use Rattle.hv_security.proofs.RowsOneEntryLater.{mail_of}
+use Rattle.hv_security.specs.Operation.{operations_of}
+use Rattle.hv_security.specs.Justified.{WerePosted, has_flag}
 use Rattle.hv_refine.specs.Tie.{here}
 use Rattle.hv_machine.specs.IsFlat.{IsFlat}
 use Rattle.hv_machine.specs.Sound.{IsSound}

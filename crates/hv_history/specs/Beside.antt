@@ -1,7 +1,7 @@
 -- Two histories side by side.
 use Rattle.std.specs.Prelude.{◌≡◌, ℕ, if◌then◌else◌, Bool, List, [], ◌∷◌, ◌++◌}
-use Rattle.hv_noninterference.specs.Alike.{AreLowEquivalent}
-use Rattle.hv_noninterference.specs.Turns.{AreMatched, Turn, events_here, events_there}
+use Rattle.hv_security.specs.Alike.{AreLowEquivalent}
+use Rattle.hv_security.specs.Turns.{AreMatched, Turn, events_here, events_there}
 use Rattle.hv_policy.specs.Step.{run}
 use Rattle.hv_policy.specs.declared.reply.Reply.{Reply}
 use Rattle.hv_history.specs.Kept.{Kept}

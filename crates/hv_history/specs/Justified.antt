@@ -5,9 +5,9 @@ use Rattle.std.specs.Option.{option_map_or}
 use Rattle.hv_partition.specs.Partition.{PartitionState}
 use Rattle.hv_policy.specs.Flat.{ConnRow, Flat, PortRow}
 use Rattle.hv_policy.specs.declared.config.Config.{Config}
-use Rattle.hv_provenance.specs.Operation.{Operation, operations_of}
-use Rattle.hv_provenance.specs.Justified.{WasConnected, WasMade, WasSignalled, WerePosted, has_flag}
-use Rattle.hv_provenance.specs.Justified.{state_before}
+use Rattle.hv_security.specs.Operation.{Operation, operations_of}
+use Rattle.hv_security.specs.Justified.{WasConnected, WasMade, WasSignalled, WerePosted, has_flag}
+use Rattle.hv_security.specs.Justified.{state_before}
 use Rattle.hv_refine.specs.Tie.{conn_row, here, mail_there, port_row, rows_of, vp_row}
 use Rattle.hv_tree.specs.Rows.{Rows}
 use Rattle.hv_history.specs.Row.{events_of, replies_of}

@@ -1,6 +1,6 @@
 // Two histories side by side.
 ghost use Rattle.std.specs.Prelude.{◌≡◌, ℕ, Bool};
-ghost use Rattle.hv_noninterference.specs.Alike.{AreLowEquivalent};
+ghost use Rattle.hv_security.specs.Alike.{AreLowEquivalent};
 ghost use Rattle.hv_machine.specs.IsFlat.{IsFlat};
 ghost use Rattle.hv_policy.specs.Flat.{Flat};
 ghost use Rattle.hv_history.specs.Beside.{AreSideBySide, replies_to};

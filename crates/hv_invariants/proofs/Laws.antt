@@ -30,15 +30,15 @@ use Rattle.hv_policy.specs.declared.property.Property.TheVariants.{PrivilegeFlag
 use Rattle.hv_policy.specs.declared.rule.Rule.{Rule}
 use Rattle.hv_privs.proofs.PrivilegesLemmas.{contains-IsSubset}
 use Rattle.hv_privs.specs.Privileges.{contains, of}
-use Rattle.hv_invariants.proofs.Changing.{activated, closed, set_row}
-use Rattle.hv_invariants.proofs.Creation.{created}
-use Rattle.hv_invariants.proofs.Deleting.{deleted}
-use Rattle.hv_invariants.proofs.Granted.{caller_there, child_row, is_served, state_row, target_there}
-use Rattle.hv_invariants.proofs.Lending.{deposited, withdrawn_pages}
-use Rattle.hv_invariants.proofs.Mailing.{mail_counted, mail_left, mailed_of}
-use Rattle.hv_invariants.proofs.Ongoing.{idle_state}
-use Rattle.hv_invariants.proofs.Posting.{cleared_lawful, msr_lawful, post_lawful, register_lawful, signal_lawful}
-use Rattle.hv_invariants.proofs.Staffing.{conn_added, conn_removed, less, port_added, port_removed, vp_added, vp_changed, vp_removed}
+use Rattle.hv_invariants.proofs.ChangedRow.{activated, closed, set_row}
+use Rattle.hv_invariants.proofs.CreatedPartition.{created}
+use Rattle.hv_invariants.proofs.DeletedPartition.{deleted}
+use Rattle.hv_invariants.proofs.MetRules.{caller_there, child_row, is_served, state_row, target_there}
+use Rattle.hv_invariants.proofs.PoolPages.{deposited, withdrawn_pages}
+use Rattle.hv_invariants.proofs.PortMessages.{mail_counted, mail_left, mailed_of}
+use Rattle.hv_invariants.proofs.RowsContinue.{idle_state}
+use Rattle.hv_invariants.proofs.PostsAndSignals.{cleared_lawful, msr_lawful, post_lawful, register_lawful, signal_lawful}
+use Rattle.hv_invariants.proofs.ProcessorsAndPorts.{conn_added, conn_removed, less, port_added, port_removed, vp_added, vp_changed, vp_removed}
 use Rattle.hv_policy.proofs.Rows.{row_of}
 use Rattle.hv_invariants.specs.Bounded.{IsBounded}
 use Rattle.hv_invariants.specs.StateInvariant.{StateInvariant}

@@ -31,7 +31,7 @@ use Rattle.hv_policy.specs.declared.property.Property.{Property}
 use Rattle.hv_policy.specs.declared.rule.Rule.{Rule}
 use Rattle.hv_privs.specs.Privileges.{of}
 use Rattle.hv_privs.specs.declared.Privileges.{Privileges}
-use Rattle.hv_invariants.proofs.Ended.{msr_counted, posted_counted, register_counted, signalled_counted}
+use Rattle.hv_invariants.proofs.MessageChanges.{msr_counted, posted_counted, register_counted, signalled_counted}
 
 -- a row that comes in is at most one more
 one_more : (part : FinMap nat_cmp PartRow) (id : ℕ) (row : PartRow) → len (insert part id row) ≤ len part + 1

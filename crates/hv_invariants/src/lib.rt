@@ -76,7 +76,7 @@ pub fn each_partition_of_a_subtree_leads_up_to_its_top()
 
 /// The order of messages matters only within a place. Two states that differ only in the order across places
 /// give the same replies to the same events, and continue to differ only in that order.
-#[tactic(auto, using(crate::proofs::Same::step_same, crate::proofs::Same::run_same))]
+#[tactic(auto, using(crate::proofs::OrderOfMessages::step_same, crate::proofs::OrderOfMessages::run_same))]
 pub fn order_across_places_does_not_count<A>()
     ensures steps { (f g : Flat) (e : Event A) → IsSame f g → ((step f e).1 ≡ (step g e).1)
         × IsSame (step f e).0 (step g e).0 }
@@ -87,7 +87,7 @@ pub fn order_across_places_does_not_count<A>()
 {}
 
 /// A run serves at most as many events as it has.
-#[tactic(auto, using(crate::proofs::Counted::run_few))]
+#[tactic(auto, using(crate::proofs::ServedCount::run_few))]
 pub fn no_more_events_are_served_than_there_are<A>()
     ensures runs { (config : Config) (events : List (Event A))
         → (run config events).0.served ≤ length events }

@@ -1,4 +1,4 @@
-pub mod Owners
-pub mod Parts
-pub mod Seen
-pub mod Served
+pub mod PageOwners
+pub mod PartitionLooks
+pub mod ProcessorLooks
+pub mod LooksAsAccesses

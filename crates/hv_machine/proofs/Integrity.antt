@@ -1,7 +1,7 @@
 -- The flat states that a machine stands for have the same of each partition.
 use Rattle.std.proofs.Common.{◌≡◌, ℕ, ◌==◌, ◌&&◌, not, Bool, true, false, cond, Option, None, Some, refl, sym, ap, ◌∙◌, eqb-true}
 use Rattle.std.specs.FinMap.{get}
-use Rattle.hv_integrity.specs.Same.{HasSame, held_by}
+use Rattle.hv_security.specs.Same.{HasSame, held_by}
 use Rattle.hv_partition.specs.Partition.{PartitionState}
 use Rattle.hv_policy.specs.Flat.{Flat, PageRow}
 use Rattle.hv_refine.specs.Tie.{PartitionRelation, is_held}

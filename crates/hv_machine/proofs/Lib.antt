@@ -1,6 +1,6 @@
-pub mod Accessing
-pub mod Booted
+pub mod AccessSteps
+pub mod BootedMachine
 pub mod Integrity
-pub mod Root
-pub mod Sound
+pub mod BootedRoot
+pub mod SoundMachine
 pub mod Steps

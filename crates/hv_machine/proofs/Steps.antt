@@ -8,16 +8,16 @@ use Rattle.hv_calls.specs.Call.{kind_of_call}
 use Rattle.hv_calls.specs.Params.{parameters}
 use Rattle.hv_calls.specs.declared.call.Call.{Call}
 use Rattle.hv_calls.specs.declared.call.Call.TheVariants.{CreatePartition, SetVpRegisters, PostMessage, SignalEvent}
-use Rattle.hv_effect.proofs.Others.{untold}
-use Rattle.hv_effect.proofs.Seen.{once_counted}
+use Rattle.hv_effect.proofs.PagesAndVps.{untold}
+use Rattle.hv_effect.proofs.ProcessorChange.{once_counted}
 use Rattle.hv_effect.specs.Effect.{Tells}
 use Rattle.hv_effect.specs.declared.effect.Effect.{Effect}
 use Rattle.hv_effect.specs.declared.effect.Effect.TheVariants as variant
-use Rattle.hv_integrity.proofs.Apart.{both}
-use Rattle.hv_integrity.proofs.Carried.{nothing_carried, step_carried}
-use Rattle.hv_integrity.proofs.Missing.{misses}
-use Rattle.hv_invariants.proofs.Counted.{action_served}
-use Rattle.hv_invariants.proofs.Ended.{posted_counted, register_counted, signalled_counted}
+use Rattle.hv_security.proofs.OtherRows.{both}
+use Rattle.hv_security.proofs.CarriedConfinement.{nothing_carried, step_carried}
+use Rattle.hv_security.proofs.OthersUnchanged.{misses}
+use Rattle.hv_invariants.proofs.ServedCount.{action_served}
+use Rattle.hv_invariants.proofs.MessageChanges.{posted_counted, register_counted, signalled_counted}
 use Rattle.hv_invariants.proofs.Laws.{lawful_effect}
 use Rattle.hv_invariants.proofs.Replies.{has_result, names_asked}
 use Rattle.hv_partition.specs.Partition.{PartitionState}
@@ -36,7 +36,7 @@ use Rattle.hv_policy.specs.declared.event.Caller.{Caller}
 use Rattle.hv_policy.specs.declared.event.Event.{Event}
 use Rattle.hv_policy.specs.declared.reply.Reply.{Reply}
 use Rattle.hv_policy.specs.declared.rule.Rule.{Rule}
-use Rattle.hv_refine.proofs.Room.{roomless_tied, same_roomless, tied_roomless}
+use Rattle.hv_refine.proofs.RoomIsNoState.{roomless_tied, same_roomless, tied_roomless}
 use Rattle.hv_refine.specs.Done.{IsCalled, unmet_in_tree}
 use Rattle.hv_refine.specs.Room.{IsSameButRoom, roomless}
 use Rattle.hv_refine.specs.Served.{TreeInvariant}
@@ -45,7 +45,7 @@ use Rattle.hv_refine.specs.declared.refused.CallError.{CallError}
 use Rattle.hv_refine.specs.declared.refused.CallError.TheVariants as refused
 use Rattle.hv_tree.specs.Rows.{Rows}
 use Rattle.hv_machine.proofs.Integrity.{flat_same}
-use Rattle.hv_machine.proofs.Sound.{sound}
+use Rattle.hv_machine.proofs.SoundMachine.{sound}
 use Rattle.hv_machine.specs.IsFlat.{IsFlat}
 use Rattle.hv_machine.specs.MachineInvariant.{MachineInvariant}
 use Rattle.hv_machine.specs.Next.{next_after}

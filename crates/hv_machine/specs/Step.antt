@@ -1,8 +1,8 @@
 -- The effect of one event on a machine.
 use Rattle.std.specs.Prelude.{◌≡◌, None, IsTrue, IfOk, OnOk, OnErr, Result}
 use Rattle.hv_abi.specs.declared.frame.Frame.{Frame}
-use Rattle.hv_integrity.specs.Integrity.{Integrity}
-use Rattle.hv_integrity.specs.Misses.{LeavesOthers}
+use Rattle.hv_security.specs.Integrity.{Integrity}
+use Rattle.hv_security.specs.Misses.{LeavesOthers}
 use Rattle.hv_policy.specs.Call.{may_take_memory}
 use Rattle.hv_policy.specs.Flat.{Flat}
 use Rattle.hv_policy.specs.Result.{HasResult}

@@ -16,16 +16,15 @@ use hv_messages::{
     clear_flag, clear_slot, post_message, read_flags, read_slot, signal_event, take_interrupt,
 };
 use hv_partition_calls::{
-    create_partition, delete_partition, finalize_partition, get_next_child_partition,
-    get_partition_id, initialize_partition,
+    create_partition, delete_partition, deposit_memory, finalize_partition, get_memory_balance,
+    get_next_child_partition, get_partition_id, get_partition_property, initialize_partition,
+    set_partition_property, withdraw_memory,
 };
 use hv_policy::{Access, Caller, Output, Rule};
-use hv_pools::{deposit_memory, get_memory_balance, withdraw_memory};
 use hv_port_calls::{NewPort, connect_port, create_port, delete_port, disconnect_port};
 use hv_processors::{
     create_vp, delete_vp, get_vp_registers, read_msr, set_vp_registers, write_msr,
 };
-use hv_properties::{get_partition_property, set_partition_property};
 use hv_refine::{CallError, Partitions};
 use std::alloc::Allocator;
 

@@ -3,11 +3,11 @@ ghost use Rattle.std.specs.Prelude.{◌≡◌, ◌<◌, [], None, Ok, IsTrue, If
 ghost use Rattle.std.specs.Result.{result_map_both};
 ghost use Rattle.hv_abi.specs.Check.{call_of};
 ghost use Rattle.hv_abi.specs.declared.frame.Frame.{Frame as CallFrame};
-ghost use Rattle.hv_integrity.specs.Integrity.{Integrity};
+ghost use Rattle.hv_security.specs.Integrity.{Integrity};
 ghost use Rattle.hv_effect.specs.Effect.{Tells};
 ghost use Rattle.hv_policy.specs.Call.{call_event, may_take_memory};
 ghost use Rattle.hv_policy.specs.Flat.{Flat};
-ghost use Rattle.hv_integrity.specs.Misses.{LeavesOthers};
+ghost use Rattle.hv_security.specs.Misses.{LeavesOthers};
 ghost use Rattle.hv_policy.specs.Parts.{reply_of};
 ghost use Rattle.hv_policy.specs.Result.{HasResult};
 ghost use Rattle.hv_policy.specs.Step.{NamesAsked, step};

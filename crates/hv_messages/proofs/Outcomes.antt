@@ -25,10 +25,10 @@ use Rattle.hv_policy.specs.Mail.{kept_of}
 use Rattle.hv_policy.specs.declared.event.Caller.{Caller}
 use Rattle.hv_ports.specs.declared.ports.Conn.{Conn}
 use Rattle.hv_ports.specs.declared.ports.Port.{Port}
-use Rattle.hv_refine.proofs.Kept.{kept_by_any, kept_by_one}
-use Rattle.hv_refine.proofs.Staff.{rows_there, vp_in, vp_there}
+use Rattle.hv_refine.proofs.PortMessages.{kept_by_any, kept_by_one}
+use Rattle.hv_refine.proofs.ChangedProcessor.{rows_there, vp_in, vp_there}
 use Rattle.hv_refine.proofs.Takers.{lowest_there, taker_there}
-use Rattle.hv_refine.proofs.Written.{vp_kept}
+use Rattle.hv_refine.proofs.UnchangedProcessor.{vp_kept}
 use Rattle.hv_refine.specs.Done.{HasServed}
 use Rattle.hv_refine.specs.Served.{TreeInvariant, unmet_further}
 use Rattle.hv_refine.specs.Tie.{Refines, here, mail_row, port_row_of, rows_of, sint_mail, vp_row_of}

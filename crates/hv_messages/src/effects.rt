@@ -21,7 +21,7 @@ use std::alloc::Allocator;
 
 // Returns the effect of a post at a SINT below 16 of the processor. `shown` says whether a message became
 // shown.
-#[tactic(auto, using(crate::proofs::Told::shows_told, crate::proofs::Told::waits_told))]
+#[tactic(auto, using(crate::proofs::VpEffects::shows_told, crate::proofs::VpEffects::waits_told))]
 pub fn posted<A: Allocator>(part: u64, index: u32, sint: u8, vp: &Vp<A>, shown: bool) -> Effect
     requires { sint < SINTS }
     ensures { (f : Flat) (v : VpState) (message : Message) → HasState f part index v
@@ -94,7 +94,7 @@ pub fn flag_cleared(part: u64, index: u32, sint: u8, flag: u16, was_set: bool) -
 
 // Returns the effect of removing the message that a SINT below 16 of the processor shows. `port` is the id of
 // its port, or `None` if the SINT shows no message.
-#[tactic(auto, using(crate::proofs::Told::again_told))]
+#[tactic(auto, using(crate::proofs::VpEffects::again_told))]
 pub fn slot_cleared(part: u64, index: u32, sint: u8, port: Option<u32>) -> Effect
     requires { sint < SINTS }
     ensures { (f : Flat) (v : VpState) → HasState f part index v

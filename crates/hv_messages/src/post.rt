@@ -97,7 +97,7 @@ fn is_for_messages(port: Port) -> bool
 }
 
 // Reserves room for the message, and posts it.
-#[tactic(auto, using(hv_tree::proofs::Laws::unchanged, hv_refine::proofs::Written::same_vp))]
+#[tactic(auto, using(hv_tree::proofs::Laws::unchanged, hv_refine::proofs::UnchangedProcessor::same_vp))]
 fn do_post<A: Allocator + Clone>(
     tree: &mut Partitions<A>,
     caller: u64,

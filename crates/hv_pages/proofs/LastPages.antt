@@ -10,7 +10,7 @@ use Rattle.hv_pages.specs.declared.runs.Run.{Run}
 use Rattle.hv_pages.specs.Falling.{IsFalling}
 use Rattle.hv_pages.specs.PageSet.{Pages, last_pages, pages_of, runs_of}
 use Rattle.hv_pages.specs.Runs.{AreRuns, IsBelow, run_pages, spread}
-use Rattle.hv_pages.proofs.Held.{Has, span_in, span_over, span_under}
+use Rattle.hv_pages.proofs.PagesOfRuns.{Has, span_in, span_over, span_under}
 use Rattle.hv_pages.proofs.Members.{len-pages_of}
 use Rattle.hv_pages.proofs.Spreads.{spread_below}
 

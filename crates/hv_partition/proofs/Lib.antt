@@ -1,2 +1,2 @@
 pub mod Disjoint
-pub mod Written
+pub mod ReplacedPages

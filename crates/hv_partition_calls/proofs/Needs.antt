@@ -5,17 +5,17 @@ use Rattle.std.specs.FinMap.{get}
 use Rattle.hv_calls.specs.declared.call.Call.TheVariants.{CreatePartition, DeletePartition}
 use Rattle.hv_defs.specs.declared.life.Life.{Life}
 use Rattle.hv_defs.specs.declared.life.Life.TheVariants.{Created, Active, Finalized}
-use Rattle.hv_invariants.proofs.Granted as granted
+use Rattle.hv_invariants.proofs.MetRules as granted
 use Rattle.hv_pages.specs.PageSet.{IsDisjoint, runs_of}
 use Rattle.hv_partition.specs.Partition.{PartitionState}
 use Rattle.hv_policy.specs.Met.{is_active}
 use Rattle.hv_policy.specs.Needs.{is_among, target_of}
 use Rattle.hv_policy.specs.declared.need.States.TheVariants as states
 use Rattle.hv_privs.specs.declared.Privileges.{Privileges}
-use Rattle.hv_refine.proofs.Allowed.{admitted_allowed, caller_row, child_row, state_row}
-use Rattle.hv_refine.proofs.Counted.{available_counted}
-use Rattle.hv_refine.proofs.Found.{content_row}
-use Rattle.hv_refine.proofs.Held.{apart_sets}
+use Rattle.hv_refine.proofs.MetRules.{admitted_allowed, caller_row, child_row, state_row}
+use Rattle.hv_refine.proofs.CountedRows.{available_counted}
+use Rattle.hv_refine.proofs.FoundRow.{content_row}
+use Rattle.hv_refine.proofs.PageHolders.{apart_sets}
 use Rattle.hv_refine.proofs.StateInvariant.{UsesNothing, few_loose, few_pooled, parents_below, quiet}
 use Rattle.hv_refine.specs.Served.{TreeInvariant}
 use Rattle.hv_refine.specs.Tie.{holds, part_row}

@@ -1,1 +1,4 @@
 pub mod Change
+pub mod Given
+pub mod MaySet
+pub mod PoolChange

@@ -84,7 +84,7 @@ fn do_delete<A: Allocator>(
 }
 
 // Reserves room for `more` runs of loose pages in a partition.
-#[tactic(auto, using(hv_tree::proofs::Laws::unchanged, crate::proofs::Lent::has_room))]
+#[tactic(auto, using(hv_tree::proofs::Laws::unchanged, crate::proofs::LentPartition::has_room))]
 fn make_room<A: Allocator>(tree: &mut Partitions<A>, id: u64, more: u64) -> Result<(), AllocError>
     requires { contains_key tree.old id ≡ true }
     ensures room { OnOk result (HasRoom tree.old tree.new id more) }

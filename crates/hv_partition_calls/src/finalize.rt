@@ -48,7 +48,7 @@ pub fn finalize_partition<A: Allocator>(
 }
 
 // Checks P12 and P13.
-#[tactic(auto, using(hv_refine::proofs::Counted::children_counted))]
+#[tactic(auto, using(hv_refine::proofs::CountedRows::children_counted))]
 fn ask_finalize<A: Allocator>(need: Need, target: &Partition<A>, children: u32) -> Option<Rule>
     ensures { (tree : Rows PartitionState) (f : Flat) (by partition : ℕ) (caller : PartitionState)
         → AreFound tree by (call.FinalizePartition partition) need caller target.now children

@@ -52,7 +52,7 @@ fn ask_initialize<A: Allocator>(need: Need, target: &Partition<A>) -> Option<Rul
     None
 }
 
-#[tactic(auto, using(crate::proofs::Ended::activated_tied, hv_effect::proofs::Others::untold))]
+#[tactic(auto, using(crate::proofs::LifeChanges::activated_tied, hv_effect::proofs::PagesAndVps::untold))]
 fn do_initialize<A: Allocator>(tree: &mut Partitions<A>, caller: u64, partition: u64) -> Effect
     requires { IsGranted tree.old caller (call.InitializePartition partition) }
     ensures { (f : Flat) → Refines tree.old f

@@ -66,7 +66,7 @@ fn is_child<A: Allocator>(tree: &Partitions<A>, parent: u64, id: u64) -> bool
 }
 
 // The least id above `previous` among a partition's children, or 0.
-#[tactic(auto, using(crate::proofs::Listed::next_is))]
+#[tactic(auto, using(crate::proofs::NextChild::next_is))]
 fn next_child<A: Allocator>(tree: &Partitions<A>, parent: u64, previous: u64) -> u64
     ensures { (f : Flat) → Refines tree.now f → result ≡ next_child_of f parent previous }
 {

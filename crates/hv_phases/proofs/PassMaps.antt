@@ -14,11 +14,11 @@ use Rattle.hv_policy.specs.declared.event.Caller.{Caller}
 use Rattle.hv_phases.specs.Begun.{AreBegun, HasBegun, IsPart, IsSettled}
 use Rattle.hv_phases.specs.Lines.{asked_by}
 use Rattle.hv_phases.specs.PassMap.{AreCallersOf, AreFrom, Each, HasBegunBy, HasFewer, HasJoined, HasRunAll, HasRunGroups, HaveRun, IsBack, IsIdle, PassMap, Past, is_key, key_of, lines_in}
-use Rattle.hv_phases.proofs.Asked.{All-first, All-second}
-use Rattle.hv_phases.proofs.Maps.{each_written}
-use Rattle.hv_phases.proofs.Members.{joined}
-use Rattle.hv_phases.proofs.Parts.{merged_begun, nothing_begun}
-use Rattle.hv_phases.proofs.Worked.{fewer_by, fewer_then}
+use Rattle.hv_phases.proofs.AskedOfProcessor.{All-first, All-second}
+use Rattle.hv_phases.proofs.ProcessorMaps.{each_written}
+use Rattle.hv_phases.proofs.ProcessorRuns.{joined}
+use Rattle.hv_phases.proofs.FirstParts.{merged_begun, nothing_begun}
+use Rattle.hv_phases.proofs.PhaseBegun.{fewer_by, fewer_then}
 use Rattle.hv_script.specs.declared.line.Line.{Line}
 use Rattle.hv_shared.specs.ByCaller.{AreDifferent, receipts_by}
 use Rattle.hv_shared.specs.PassValue.{PassValue}

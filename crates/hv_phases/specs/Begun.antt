@@ -2,7 +2,6 @@
 use Rattle.std.specs.Prelude.{ℕ, ◌≡◌, ◌⊎◌, List, [], ◌∷◌, ◌++◌, All, map}
 use Rattle.std.specs.declared.alloc.Global.{Global}
 use Rattle.hv_history.specs.Kept.{Kept}
-use Rattle.hv_history.specs.declared.entry.Entry.{Entry}
 use Rattle.hv_phases.specs.Lines.{asked_by}
 use Rattle.hv_policy.specs.declared.config.Config.{Config}
 use Rattle.hv_policy.specs.declared.event.Action.{Action}

@@ -8,6 +8,8 @@ use Rattle.hv_policy.specs.declared.event.Caller.{Caller}
 use Rattle.hv_script.specs.declared.line.Line.{Line}
 use Rattle.hv_phases.specs.Begun.{AreBegun, HasBegun}
 use Rattle.hv_phases.specs.Lines.{asked_by}
+use Rattle.hv_phases.specs.Turns.{todo_of}
+use Rattle.hv_phases.specs.declared.turn.Turn.{Turn}
 use Rattle.hv_shared.specs.ByCaller.{AreDifferent}
 use Rattle.hv_shared.specs.Pass.{HasReceipts}
 use Rattle.hv_shared.specs.PassValue.{PassValue}
@@ -175,24 +177,12 @@ module _ {S : Type 0} where
   abbrev pub HasRunAll : Bool → List (Line Global) → PassMap S → Type 0
   HasRunAll serial lines new = (last : ℕ) × HasRunUpTo serial lines [] last new
 
-module _ {L S T : Type 0} where
-  -- a line was handed to its processor
-  abbrev pub HasGiven : Line Global → PassMap S → PassMap S → IndexMap (ℕ × ℕ) (Work L) T →
-      IndexMap (ℕ × ℕ) (Work L) T → Type 0
-  HasGiven line old new busy_old busy_new = (past : List Past) (taken : List (Line Global)) → Each
-      (IsIdle past taken) old → Each (IsBusy past taken) busy_old
-      → Each (IsIdle past (taken ++ line ∷ [])) new × Each (IsBusy past (taken ++ line ∷ [])) busy_new
-
-module _ {S : Type 0} where
-  -- The first line and the next ones of its phase were handed to their processors, of whose work this holds.
-  -- The lines that are left are in reverse order.
-  pub record HasHandedOut (first : Line Global) (left_old left_new : List (Line Global))
-      (Out : List Past → List (Line Global) → Type 0) (old new : PassMap S) : Type 0 where
-    pub more : List (Line Global)
-    pub order : reverse left_old ≡ more ++ reverse left_new
-    pub phase : All (λ line. line.phase ≡ first.phase) more
-    pub each : (past : List Past) → Each (IsIdle past []) old → Each (IsIdle past (first ∷ more)) new ×
-        Out past (first ∷ more)
+module _ {L S : Type 0} where
+  -- The turns of a phase were handed to their processors. Whoever still has a pass in the map has no turn.
+  abbrev pub HasHandedTo : List Turn → List (Work L) → PassMap S → PassMap S → Type 0
+  HasHandedTo turns works old new = (past : List Past) (taken : List (Line Global))
+      → ((by : Caller) → todo_of by turns ≡ asked_by by taken) → Each (IsIdle past []) old → Each
+      (IsIdle past taken) new × AreBusy past taken works
 
 module _ {L : Type 0} where
   -- the pass is the processor's, and that of one of these outcomes

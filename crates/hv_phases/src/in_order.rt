@@ -10,9 +10,9 @@ use crate::pass_map::{CallerMap, key_of};
 use crate::run::RunError;
 use crate::stop::{Stop, first_of};
 use hv_history::HostRefused;
-use hv_policy::{Action, Caller};
+use hv_policy::Caller;
 use hv_script::Line;
-use hv_threads::{Gate, Pass, SettleFault, Shared};
+use hv_threads::{Driver, Gate, Pass, SettleFault};
 use std::alloc::Global;
 use std::sync::Wait;
 use std::sync::ledger::Ledger;
@@ -24,9 +24,7 @@ use std::sync::ledger::Ledger;
 /// was stopped. A pass doesn't know what other processors did, so the numbers of receipts are compared. Those
 /// of each line are above those of the lines before it, or the run doesn't count.
 pub fn run_in_order<L: Ledger, R: Wait, G: Gate>(
-    rt: &R,
-    gate: &G,
-    shared: &Shared<L>,
+    driver: &Driver<'_, L, R, G>,
     pass_map: &mut CallerMap<Pass<L>>,
     lines: Vec<Line<Global>>,
     order: &[Caller],
@@ -49,7 +47,7 @@ pub fn run_in_order<L: Ledger, R: Wait, G: Gate>(
             phase = line.phase;
         }
         let by = line.by;
-        match run_line(rt, gate, shared, pass_map, line, last) {
+        match run_line(driver, pass_map, line, last) {
             Ok(Some(now)) => last = now,
             Ok(None) => differs = true,
             Err(why) => {
@@ -76,9 +74,7 @@ fn leave_out(left: &mut Vec<Line<Global>>, by: Caller)
 // Runs a line. Returns the highest receipt number after it, where `last` is the highest before it, or `None`
 // after a new receipt whose number isn't above `last`, and without a pass of the line's processor.
 fn run_line<L: Ledger, R: Wait, G: Gate>(
-    rt: &R,
-    gate: &G,
-    shared: &Shared<L>,
+    driver: &Driver<'_, L, R, G>,
     pass_map: &mut CallerMap<Pass<L>>,
     line: Line<Global>,
     last: u64,
@@ -93,38 +89,9 @@ fn run_line<L: Ledger, R: Wait, G: Gate>(
         return Ok(None);
     };
     let before = pass.receipts().len();
-    let done = act(rt, shared, gate, pass, action);
+    let done = driver.drive(pass, action);
     match done {
         Ok(()) => Ok(highest_above(pass.receipts(), before, last, last)),
         Err(why) => Err(why),
-    }
-}
-
-// Performs one action to its end: drives a hypercall, and calls for anything else.
-fn act<L: Ledger, R: Wait, G: Gate>(
-    rt: &R,
-    shared: &Shared<L>,
-    gate: &G,
-    pass: &mut Pass<L>,
-    action: Action<Global>,
-) -> Result<(), HostRefused>
-    ensures performed { OnOk result (HasPerformed action pass.old pass.new) }
-    ensures refused { OnErr result (HasBegun action pass.old pass.new) }
-{
-    match action {
-        Action::Hypercall(frame) => match shared.drive(rt, pass, gate, frame) {
-            Ok(_) => Ok(()),
-            Err(refused) => Err(refused.why),
-        },
-        Action::ReadMsr(_)
-        | Action::WriteMsr(_, _)
-        | Action::ReadSlot(_)
-        | Action::ClearSlot(_)
-        | Action::ReadFlags(_)
-        | Action::ClearFlag(_, _)
-        | Action::TakeInterrupt => match shared.call(rt, pass, gate, action) {
-            Ok(_) => Ok(()),
-            Err(why) => Err(why),
-        },
     }
 }

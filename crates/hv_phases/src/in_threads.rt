@@ -1,21 +1,20 @@
 // The phases of a script, each processor of a phase in a thread of its own.
-ghost use Rattle.std.specs.Prelude.{◌≡◌, ◌++◌, ◌∷◌, [], IfErr, IfNone, IfOk, IfSome, OnOk, false, length};
-ghost use Rattle.std.specs.Prelude.{vec_len};
-ghost use Rattle.hv_phases.specs.PassMap.{AreBusy, Each, HasBegunBy, HasFewer, HasGiven, HasHandedOut};
-ghost use Rattle.hv_phases.specs.PassMap.{HasRunAll, HasRunWorks, HasTaken, IsIdle, IsTakenFrom};
-ghost use Rattle.hv_phases.specs.PassMap.{IsWorkedFrom, is_key};
+ghost use Rattle.std.specs.Prelude.{◌≡◌, [], IfErr, IfNone, IfOk, false, length, vec_len};
+ghost use Rattle.hv_phases.specs.PassMap.{Each, HasBegunBy, HasFewer, HasHandedTo, HasRunAll};
+ghost use Rattle.hv_phases.specs.PassMap.{HasRunWorks, HasTaken, IsIdle, IsTakenFrom, IsWorkedFrom};
 ghost use Rattle.hv_phases.specs.Stops.{IsWhyNot};
-ghost use Rattle.indexmap.specs.IndexMap.{IsUnique, values};
+ghost use Rattle.hv_phases.specs.Turns.{AreNew};
 
 use crate::barrier::{counts_of, highest_above};
 use crate::pass_map::{CallerMap, join, key_of};
 use crate::run::RunError;
+use crate::schedule::turns_of;
 use crate::stop::{Stop, first_of};
+use crate::turn::Turn;
 use hv_history::HostRefused;
 use hv_policy::Caller;
 use hv_script::Line;
 use hv_threads::{Done, End, Gate, Pass, SettleFault, Shared, Work, run_phase};
-use indexmap::IndexMap;
 use std::alloc::{AllocError, Global};
 use std::sync::Wait;
 use std::sync::ledger::Ledger;
@@ -41,7 +40,10 @@ pub fn run_in_threads<L: Ledger + Send + Sync, R: Threads + Wait + Sync, G: Gate
     left.reverse();
     let mut last = 0;
     while let Some(first) = left.pop() {
-        let Ok(works) = works_of(pass_map, first, &mut left) else {
+        let Ok(turns) = turns_of(first, &mut left) else {
+            return Some(RunError::Host(HostRefused::Memory));
+        };
+        let Ok(works) = works_of(pass_map, turns) else {
             return Some(RunError::Host(HostRefused::Memory));
         };
         match run_works(rt, gate, shared, pass_map, works, last, order) {
@@ -52,74 +54,27 @@ pub fn run_in_threads<L: Ledger + Send + Sync, R: Threads + Wait + Sync, G: Gate
     None
 }
 
-// Hands out the lines of a phase, which begins with this one. Returns the work of the processors that they
-// name, in the order of their first lines. The lines that are left are in reverse order.
+// Hands the turns of a phase to their processors, whose passes are taken out of the map. Returns their work,
+// in order. It fails without memory, and for a processor without a pass.
 fn works_of<L: Ledger>(
     pass_map: &mut CallerMap<Pass<L>>,
-    first: Line<Global>,
-    left: &mut Vec<Line<Global>>,
+    turns: Vec<Turn>,
 ) -> Result<Vec<Work<L>>, AllocError>
-    ensures handed { IfOk result (λ works. HasHandedOut first left.old.items left.new.items
-        (λ past taken. AreBusy past taken works.items) pass_map.old pass_map.new) }
+    requires { AreNew turns.items }
+    ensures handed { IfOk result (λ works. HasHandedTo turns.items works.items pass_map.old pass_map.new) }
     ensures fewer { HasFewer pass_map.old pass_map.new }
 {
-    let phase = first.phase;
-    let mut busy = IndexMap::new(*left.allocator());
-    give(pass_map, &mut busy, first)?;
-    while let Some(line) = next_of(left, phase) {
-        give(pass_map, &mut busy, line)?;
-    }
-    Ok(works_in(busy)?)
-}
-
-// Returns the work in the map, in order.
-fn works_in<L: Ledger>(busy: CallerMap<Work<L>>) -> Result<Vec<Work<L>>, AllocError>
-    ensures unique { IsUnique is_key busy }
-    ensures all { IfOk result (λ works. works.items ≡ values busy) }
-{
-    let alloc = *busy.allocator();
-    // proof: the keys differ.
-    let _count = busy.len();
-    busy.into_values().collect(alloc)
-}
-
-// Takes out the next line, if there is one and it is of this phase.
-fn next_of(left: &mut Vec<Line<Global>>, phase: u32) -> Option<Line<Global>>
-    ensures some { IfSome result (λ line. left.old.items ≡ left.new.items ++ line ∷ []) }
-    ensures phase { IfSome result (λ line. line.phase ≡ phase) }
-    ensures none { IfNone result (left.new.items ≡ left.old.items) }
-{
-    match left.last() {
-        Some(line) if line.phase == phase => left.pop(),
-        _ => None,
-    }
-}
-
-// Hands a line to its processor. With its first line, its pass is taken out of the map. It fails without
-// memory, and for a processor without a pass.
-fn give<L: Ledger>(
-    pass_map: &mut CallerMap<Pass<L>>,
-    busy: &mut CallerMap<Work<L>>,
-    line: Line<Global>,
-) -> Result<(), AllocError>
-    ensures given { OnOk result (HasGiven line pass_map.old pass_map.new busy.old busy.new) }
-    ensures fewer { HasFewer pass_map.old pass_map.new }
-{
-    let Line { by, action, .. } = line;
-    let key = key_of(by);
-    let Some(pass) = pass_map.swap_remove(&key) else {
-        let Some(work) = busy.get_mut(&key) else {
+    let mut works = Vec::with_capacity(*turns.allocator(), turns.len())?;
+    let mut left = turns;
+    left.reverse();
+    while let Some(turn) = left.pop() {
+        let Turn { by, actions, .. } = turn;
+        let Some(pass) = pass_map.swap_remove(&key_of(by)) else {
             return Err(AllocError);
         };
-        work.actions.push(action)?;
-        return Ok(());
-    };
-    let mut actions = Vec::new(*busy.allocator());
-    actions.push(action)?;
-    match busy.insert(key, Work { pass, actions }) {
-        Ok(_) => Ok(()),
-        Err(_) => Err(AllocError),
+        works.push(Work { pass, actions })?;
     }
+    Ok(works)
 }
 
 // Performs these works, each in a thread of its own. Returns the highest receipt number at the end of the

@@ -4,8 +4,10 @@
 //! next one begins. In a phase, each of its processors drives its lines in order, in a thread of its own. In
 //! the script's order, one thread does so, line by line. At the end the passes' receipts are settled with the
 //! history. [`run_lines`] returns the machine with its history, and why the lines didn't all run, if they
-//! didn't. Of several processors that the host stopped, the one with the first line counts. Scripts and
-//! phases are this project's own.
+//! didn't. Of several processors that the host stopped, the one with the first line counts.
+//!
+//! [`Schedule`] says whose turn it may be, and when a phase ends: it steps through a script's lines by named
+//! processor, as an audit names them. Scripts and phases are this project's own.
 #![tactic(auto)]
 
 mod barrier;
@@ -14,6 +16,11 @@ mod in_order;
 mod in_threads;
 mod pass_map;
 mod run;
+mod schedule;
 mod stop;
+mod turn;
+mod turning;
 
 pub use run::{RunError, run_lines};
+pub use schedule::Schedule;
+pub use turn::Turn;

@@ -13,7 +13,7 @@ use crate::pass_map::{leave, pass_map_of};
 use hv_history::{HostRefused, Kept};
 use hv_policy::Caller;
 use hv_script::Line;
-use hv_threads::{Gate, Pass, SettleFault, Shared, settle};
+use hv_threads::{Driver, Gate, Pass, SettleFault, Shared, settle};
 use std::alloc::Global;
 use std::marker::Brand;
 use std::sync::Wait;
@@ -95,7 +95,7 @@ fn run_under<L: Ledger + Send + Sync, R: Threads + Wait + Sync, G: Gate>(
     match Shared::<L>::new(kept, blank, callers) {
         Ok((shared, mut passes)) => {
             let stop = run_on(rt, gate, &shared, &order, &mut passes, lines, serial);
-            finish(shared, passes, stop)
+            settle_run(shared, passes, stop)
         }
         Err(kept) => (kept, Some(RunError::Host(HostRefused::Memory))),
     }
@@ -123,7 +123,7 @@ fn run_on<L: Ledger + Send + Sync, R: Threads + Wait + Sync, G: Gate>(
         return Some(RunError::Host(HostRefused::Memory));
     };
     let stop = if serial {
-        run_in_order(rt, gate, shared, &mut pass_map, lines, callers)
+        run_in_order(&Driver { rt, shared, gate }, &mut pass_map, lines, callers)
     } else {
         run_in_threads(rt, gate, shared, &mut pass_map, lines, callers)
     };
@@ -134,7 +134,7 @@ fn run_on<L: Ledger + Send + Sync, R: Threads + Wait + Sync, G: Gate>(
 }
 
 // Settles, and returns the first cause: why the lines didn't all run, or what the settlement found.
-fn finish<L: Ledger>(
+fn settle_run<L: Ledger>(
     shared: Shared<L>,
     passes: Vec<Pass<L>>,
     stop: Option<RunError>,

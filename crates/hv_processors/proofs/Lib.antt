@@ -1,2 +1,2 @@
-pub mod Ended
-pub mod Made
+pub mod WrittenRegister
+pub mod CreatedProcessor

@@ -19,8 +19,8 @@ use Rattle.hv_policy.specs.Count.{in_use}
 use Rattle.hv_policy.specs.Flat.{Flat, PageRow}
 use Rattle.hv_policy.specs.Met.{is_active, test_row}
 use Rattle.hv_tree.specs.Rows.{Row, Rows, children, parent}
-use Rattle.hv_refine.proofs.Counted.{children_counted, conns_counted, pool_counted, ports_counted, use_counted, vps_counted}
-use Rattle.hv_refine.proofs.Found.{parent_there}
+use Rattle.hv_refine.proofs.CountedRows.{children_counted, conns_counted, pool_counted, ports_counted, use_counted, vps_counted}
+use Rattle.hv_refine.proofs.FoundRow.{parent_there}
 use Rattle.hv_refine.specs.Tie.{Refines, is_held, holds, part_row}
 
 -- a partition that uses nothing of its pool has no children, processors, ports and connections

@@ -10,8 +10,8 @@ use Rattle.hv_partition.specs.Partition.{PartitionState}
 use Rattle.hv_policy.proofs.Pairs.{first_there}
 use Rattle.hv_policy.specs.Aim.{lowest_vp, on_vp, select_vp}
 use Rattle.hv_policy.specs.Flat.{Flat, VpRow}
-use Rattle.hv_refine.proofs.Found.{found}
-use Rattle.hv_refine.proofs.Staff.{vp_in, vp_there}
+use Rattle.hv_refine.proofs.FoundRow.{found}
+use Rattle.hv_refine.proofs.ChangedProcessor.{vp_in, vp_there}
 use Rattle.hv_refine.specs.Tie.{Refines, vp_row_of}
 use Rattle.hv_tree.specs.Rows.{Row, Rows}
 use Rattle.hv_vp.specs.Vp.{VpState}

@@ -97,7 +97,7 @@ fn run_script<T: Threads + Wait + Sync, G: Gate, W: Write>(
 /// Prints the audit of a run, and with `with_table` the table, whether or not its lines all ran.
 ///
 /// Why they didn't all run comes before output that couldn't be written.
-#[tactic(auto, using(crate::proofs::Parts::run_fails))]
+#[tactic(auto, using(crate::proofs::FailedWrites::run_fails))]
 pub fn print_run<W: Write>(
     kept: &Kept<Global>,
     unfinished: Option<RunError>,
@@ -119,7 +119,7 @@ pub fn print_run<W: Write>(
 }
 
 // Prints the audit, and with `with_table` the table.
-#[tactic(auto, using(crate::proofs::Parts::print_fails))]
+#[tactic(auto, using(crate::proofs::FailedWrites::print_fails))]
 fn print<W: Write>(kept: &Kept<Global>, with_table: bool, out: &mut W) -> Result<(), Failure>
     ensures told { OnOk result (Appends (W.contents out.old) (W.contents out.new)
         (told_by with_table kept.now)) }

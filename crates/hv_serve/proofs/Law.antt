@@ -8,7 +8,7 @@ use Rattle.std.proofs.lemmas.Bool.Decides.{nat_tests}
 use Rattle.std.proofs.lemmas.List.Elements.{All-cons, All-head, All-nil, All-tail}
 use Rattle.hv_history.specs.Kept.{IsRun}
 use Rattle.hv_history.specs.declared.entry.Entry.{Entry}
-use Rattle.hv_phases.proofs.Phased.{in_order_phased}
+use Rattle.hv_phases.proofs.PhasedHistories.{in_order_phased}
 use Rattle.hv_phases.specs.Lines.{AreInOrder}
 use Rattle.hv_run.specs.Written.{HasWritten}
 use Rattle.hv_script.specs.Line.{◌>>=◌}
@@ -22,7 +22,7 @@ use Rattle.hv_script.specs.declared.line.Line.{Line}
 use Rattle.hv_script.specs.declared.script.TheConstants.{MOST_BYTES}
 use Rattle.hv_text.specs.Audit.{audit_text, entries_text}
 use Rattle.hv_serve.proofs.Lines.{IsOne, split_joined}
-use Rattle.hv_serve.proofs.Order.{order-append, run_in_order}
+use Rattle.hv_phases.proofs.PhasedHistories.{order-append, order_run}
 use Rattle.hv_serve.proofs.Texts.{audited, drop_front, entries-append}
 use Rattle.hv_serve.specs.Law.{IsServed, done_in, is_done, script_in, told_in}
 use Rattle.hv_serve.specs.Meant.{Asks, Explains, Meant, Peeks, Reads, meaning, meant, request_by, request_line}
@@ -296,7 +296,7 @@ serial turns now are served most old new told =
       run = is.run;
       config = is.config;
       limit = is.limit;
-      lines = run_in_order now.read.lines now.kept.history is.order;
+      lines = order_run 1 now.read.lines now.kept.history is.order;
       phases = in_order_phased now.read.lines now.kept.history is.order;
       order = λ _. is.order;
       told = subst (Appends old new) text told;

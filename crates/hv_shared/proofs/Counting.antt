@@ -9,7 +9,7 @@ use Rattle.hv_shared.specs.Counted.{IsCounted, StandsAt}
 use Rattle.hv_shared.specs.Merge.{IsMerge, owned}
 use Rattle.hv_shared.specs.Pass.{receipt}
 use Rattle.hv_shared.specs.declared.receipts.Receipt.{Receipt}
-use Rattle.hv_shared.proofs.Packed.{there_is}
+use Rattle.hv_shared.proofs.PackedReceipts.{there_is}
 
 abbrev Stands : List Receipt → Receipt → Type 0
 Stands l r = (k : ℕ) × (slice_get l k ≡ Some r)

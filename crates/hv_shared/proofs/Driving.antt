@@ -24,8 +24,8 @@ use Rattle.hv_shared.specs.PassValue.{PassValue}
 use Rattle.hv_shared.specs.Receipts.{numbered}
 use Rattle.hv_shared.specs.declared.receipts.Receipt.{Receipt}
 use Rattle.hv_shared.proofs.Copies.{enough_in}
-use Rattle.hv_shared.proofs.Holding.{onward}
-use Rattle.hv_shared.proofs.Numbers.{entries_in, numbered-push}
+use Rattle.hv_shared.proofs.HeldElements.{onward}
+use Rattle.hv_shared.proofs.EntryNumbers.{entries_in, numbered-push}
 
 has_index_at : (n : ℕ) (reply : Reply) → GoesOnAt n reply → n < REPS_END
 has_index_at n (More next output) is = is.1

@@ -1,5 +1,5 @@
-pub mod Families
+pub mod NarrowedFamilies
 pub mod FlagLines
 pub mod Policies
-pub mod Starts
+pub mod NewProcessor
 pub mod Takers

@@ -10,7 +10,7 @@ ghost use Rattle.hv_tables.specs.Lines.{access_line};
 
 /// The value of each register in a new processor with this index. The table has these 40 registers, and no
 /// others.
-#[tactic(auto, using(crate::proofs::Starts::found_at_start))]
+#[tactic(auto, using(crate::proofs::NewProcessor::found_at_start))]
 pub fn each_register_has_its_start()
     ensures vp_index_name { VP_INDEX ≡ 0x00090003 }
     ensures vp_index_row { is_some (find (λ row. row.name == 0x00090003) REGISTERS) ≡ true }

@@ -1,4 +1,4 @@
 pub mod Outputs
 pub mod Rows
-pub mod Sent
-pub mod Tied
+pub mod WrittenText
+pub mod TableOfState

@@ -1,4 +1,4 @@
 pub mod ActOutcomes
 pub mod OwnReceipts
-pub mod Phases
-pub mod Working
+pub mod TaskOutcomes
+pub mod WorkSteps

@@ -42,25 +42,40 @@ pub fn act(
     }
 }
 
-// Performs one action to its end: drives a hypercall, and calls for anything else.
-pub(crate) fn perform<L: Ledger, R: Wait, G: Gate>(
-    rt: &R,
-    shared: &Shared<L>,
-    gate: &G,
-    pass: &mut Pass<L>,
-    action: Action<Global>,
-) -> Result<(), HostRefused>
-    ensures performed { OnOk result (HasPerformed action pass.old pass.new) }
-    ensures refused { OnErr result (HasBegun action pass.old pass.new) }
-{
-    match action {
-        Action::Hypercall(frame) => match shared.drive(rt, pass, gate, frame) {
-            Ok(_) => Ok(()),
-            Err(refused) => Err(refused.why),
-        },
-        action => match shared.call(rt, pass, gate, action) {
-            Ok(_) => Ok(()),
-            Err(why) => Err(why),
-        },
+/// A machine that threads share, and what a thread needs to act on it.
+#[derive(Drop)]
+pub struct Driver<'a, L: Ledger, R: Wait, G: Gate> {
+    /// What lets a thread wait for the lock.
+    pub rt: &'a R,
+    /// The lock.
+    pub shared: &'a Shared<L>,
+    /// Its hooks run around each hold of the lock.
+    pub gate: &'a G,
+}
+
+impl<L: Ledger, R: Wait, G: Gate> Driver<'_, L, R, G> {
+    /// Performs one action of the pass's processor to its end: drives a hypercall, and calls for an access.
+    ///
+    /// `Err` says why the host refused an event; the pass has the receipts of those before it.
+    pub fn drive(&self, pass: &mut Pass<L>, action: Action<Global>) -> Result<(), HostRefused>
+        ensures performed { OnOk result (HasPerformed action pass.old pass.new) }
+        ensures refused { OnErr result (HasBegun action pass.old pass.new) }
+    {
+        match action {
+            Action::Hypercall(frame) => match self.shared.drive(self.rt, pass, self.gate, frame) {
+                Ok(_) => Ok(()),
+                Err(refused) => Err(refused.why),
+            },
+            Action::ReadMsr(_)
+            | Action::WriteMsr(_, _)
+            | Action::ReadSlot(_)
+            | Action::ClearSlot(_)
+            | Action::ReadFlags(_)
+            | Action::ClearFlag(_, _)
+            | Action::TakeInterrupt => match self.shared.call(self.rt, pass, self.gate, action) {
+                Ok(_) => Ok(()),
+                Err(why) => Err(why),
+            },
+        }
     }
 }

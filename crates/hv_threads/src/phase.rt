@@ -4,7 +4,7 @@ ghost use Rattle.std.specs.Prelude.{slice_index_or, map, reverse};
 ghost use Rattle.hv_threads.specs.Phase.{IsDoneAt, EachDone, done_of};
 ghost use Rattle.hv_threads.specs.declared.phase.Task.{Task};
 
-use crate::action::perform;
+use crate::action::Driver;
 use hv_history::HostRefused;
 use hv_policy::Action;
 use hv_shared::{Gate, Pass, Shared};
@@ -54,16 +54,17 @@ struct Task<L: Ledger> {
 }
 
 // Performs the actions in order, up to the first that the host refuses.
-#[tactic(auto, using(crate::proofs::Working::goes_on))]
+#[tactic(auto, using(crate::proofs::WorkSteps::goes_on))]
 fn run_work<L: Ledger, R: Wait, G: Gate>(rt: &R, shared: &Shared<L>, gate: &G, task: &mut Task<L>)
     ensures { IsDoneAt task.old task.new }
 {
     let Task { work, done, end } = task;
     let Work { pass, actions } = work;
+    let driver = Driver { rt, shared, gate };
     *done = 0;
     actions.reverse();
     while let Some(action) = actions.pop() {
-        if let Err(why) = perform(rt, shared, gate, pass, action) {
+        if let Err(why) = driver.drive(pass, action) {
             *end = End::Host(why);
             return;
         }

@@ -1,5 +1,5 @@
-mod Charted
-pub mod Joined
+mod WrittenParts
+pub mod JoinedNumbers
 mod Notes
-pub mod Parts
-pub mod Whole
+pub mod PartsInOrder
+pub mod WrittenObject

@@ -5,8 +5,7 @@ use hv_abi::{Frame, InputValue};
 use hv_calls::{Call, Payload};
 use hv_defs::{Aim, PortKind, SELF_ID};
 use hv_policy::{Access, Action, Property};
-use hv_reasons::call_of;
-use hv_words::{Words, kind_name, property_name, push_msr, push_register};
+use hv_words::{Words, call_of, kind_name, property_name, push_msr, push_register};
 use std::alloc::Global;
 
 /// Adds the fields of an event.

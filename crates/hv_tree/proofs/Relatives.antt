@@ -11,14 +11,14 @@ use Rattle.hv_tree.specs.Nest.{has_row, look}
 use Rattle.hv_tree.specs.Put.{content_of}
 use Rattle.hv_tree.specs.Rows.{Rows, children, content, parent}
 use Rattle.hv_tree.specs.Way.{IsReached, children_of, id_of}
-use Rattle.hv_tree.proofs.Changes.{kids-reached}
-use Rattle.hv_tree.proofs.Child.{found_has}
-use Rattle.hv_tree.proofs.Kept.{got, laid}
-use Rattle.hv_tree.proofs.Kin.{count-seen}
+use Rattle.hv_tree.proofs.ChangedNode.{kids-reached}
+use Rattle.hv_tree.proofs.ChildRows.{found_has}
+use Rattle.hv_tree.proofs.TreeInvariant.{got, laid}
+use Rattle.hv_tree.proofs.ChildrenOfRow.{count-seen}
 use Rattle.hv_tree.proofs.Levels.{top-lines}
-use Rattle.hv_tree.proofs.Nested.{nest}
-use Rattle.hv_tree.proofs.Seen.{IsShown, get_none, has-seen, parent-indexed, root_top}
-use Rattle.hv_tree.proofs.Sought.{falls, has-named, lost}
+use Rattle.hv_tree.proofs.NestedRows.{nest}
+use Rattle.hv_tree.proofs.TreeAsMap.{IsShown, get_none, has-seen, parent-indexed, root_top}
+use Rattle.hv_tree.proofs.WayFound.{falls, has-named, lost}
 
 module _ {T A : Type 0} {n : ℕ} {m : Rows T} (up : ℕ → Option ℕ) (b : Branch T A) (k : IsKept (lines b) n up) (s : IsShown (lines b) n m) where
   -- what a node that was found says of its row

@@ -8,7 +8,7 @@ use Rattle.hv_tree.specs.declared.node.Branch.{Branch}
 use Rattle.hv_tree.specs.declared.node.Node.{Node}
 use Rattle.hv_tree.specs.Put.{node_of, child_of, reach}
 use Rattle.hv_tree.specs.Way.{id_of, children_of, place_by, further, places, IsRising, AreRising}
-use Rattle.hv_tree.proofs.Ways.{reach_two}
+use Rattle.hv_tree.proofs.InsertedAtWay.{reach_two}
 
 pub none-past : {X : Type 0} (xs : List X) (i : ℕ) → length xs ≤ i → slice_get xs i ≡ None
 none-past [] i h = refl

@@ -1,4 +1,4 @@
-use Rattle.hv_asm.proofs.Held.{holds_list}
+use Rattle.hv_asm.proofs.ListContents.{holds_list}
 use Rattle.hv_asm.proofs.fields_are_held.Goals as goal
 
 pub returns : goal.returns

@@ -1,4 +1,4 @@
-use Rattle.hv_invariants.proofs.Ongoing.{runs_begun, step_follows}
+use Rattle.hv_invariants.proofs.RowsContinue.{runs_begun, step_follows}
 use Rattle.hv_invariants.proofs.a_running_partition_gets_no_privilege.Goals as goal
 
 pub returns : goal.returns

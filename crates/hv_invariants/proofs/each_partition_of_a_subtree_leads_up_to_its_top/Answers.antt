@@ -1,6 +1,6 @@
 use Rattle.hv_policy.proofs.Subtrees.{leads_tested, within_leads}
 use Rattle.hv_policy.specs.Count.{parent_of}
-use Rattle.hv_invariants.proofs.Changing.{parents_below}
+use Rattle.hv_invariants.proofs.ChangedRow.{parents_below}
 use Rattle.hv_invariants.proofs.each_partition_of_a_subtree_leads_up_to_its_top.Goals as goal
 
 pub returns : goal.returns

@@ -1,4 +1,4 @@
-use Rattle.hv_invariants.proofs.Readings.{conn_running, parent_running, port_running, vp_running}
+use Rattle.hv_invariants.proofs.InvariantRows.{conn_running, parent_running, port_running, vp_running}
 use Rattle.hv_invariants.proofs.each_row_is_of_a_running_partition.Goals as goal
 
 pub returns-clause-vps : goal.returns-clause-vps

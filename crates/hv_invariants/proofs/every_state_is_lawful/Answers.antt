@@ -1,5 +1,5 @@
 use Rattle.hv_policy.specs.Boot.{boot}
-use Rattle.hv_invariants.proofs.Booting.{lawful_boot}
+use Rattle.hv_invariants.proofs.BootState.{lawful_boot}
 use Rattle.hv_invariants.proofs.Laws.{lawful_effect, lawful_run, lawful_step}
 use Rattle.hv_invariants.proofs.every_state_is_lawful.Goals as goal
 

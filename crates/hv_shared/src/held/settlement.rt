@@ -212,7 +212,7 @@ fn are_empty(rests: &[Rest]) -> bool
 }
 
 // Returns the first fault of a history and these receipts, if there is one.
-#[tactic(auto, using(crate::proofs::Merged::fault_not_made))]
+#[tactic(auto, using(crate::proofs::MergedHistory::fault_not_made))]
 fn fault_of(
     kept: &Kept<Global>,
     config: Config,

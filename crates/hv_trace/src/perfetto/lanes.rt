@@ -9,8 +9,8 @@ use hv_effect::{Effect, FlagChange, Synic};
 use hv_mail::Pending;
 use hv_partition::PageKind;
 use hv_policy::{Action, Answer, Caller, Reply};
-use hv_reasons::call_of;
 use hv_refine::{Partitions, resolve_partition_id};
+use hv_words::call_of;
 use indexmap::IndexMap;
 use std::alloc::{AllocError, Global};
 

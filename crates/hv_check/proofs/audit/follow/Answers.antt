@@ -1,26 +1,27 @@
-use Rattle.std.proofs.Common.{◌≡◌, ◌<◌, ◌≤◌, ◌≢◌, ℕ, ◌+◌, ◌-◌, List, [], ◌∷◌, ◌++◌, length, get_or, take, drop, refl, sym, ap, ◌∙◌, subst, arith, inl, inr, true, false, Bool, None, Some, append-nil}
-use Rattle.hv_check.specs.From.{HasMoved, IsLegalFrom, IsStep}
+use Rattle.std.proofs.Common.{◌-◌, subst}
+use Rattle.hv_check.specs.From.{IsLegalFrom, IsStep}
 use Rattle.hv_check.specs.declared.step.Step.TheVariants.{On, Not}
-use Rattle.hv_check.proofs.Ends.{moved_begun, moved_on}
-use Rattle.hv_check.proofs.Judged.{says_map}
+use Rattle.hv_check.proofs.AuditEnd.{moved_begun, moved_on}
+use Rattle.hv_check.proofs.ScriptTexts.{says_map}
 use Rattle.hv_check.proofs.audit.follow.Goals as goal
 
 pub returns-in-Not : goal.returns-in-Not
 returns-in-Not c lines stands is =
     let moved = c.loop-kept.invariant.moved lines stands in
-    let bad : IsStep c.args.ask.rules c.loop-kept.kept c.take_line.new.kept c.loop-kept.replay c.take_line.new.replay c.loop-kept.text.now (Not c.in-Not.wrong) = subst
-    (IsStep c.args.ask.rules c.loop-kept.kept c.take_line.new.kept c.loop-kept.replay c.take_line.new.replay c.loop-kept.text.now) c.in-Not.is c.in_ok-rest.ensures.step in
+    let bad : IsStep c.args.ask.rules c.loop-kept.kept c.take_line.new.kept c.loop-kept.schedule c.take_line.new.schedule c.loop-kept.text.now (Not c.in-Not.wrong) = subst
+    (IsStep c.args.ask.rules c.loop-kept.kept c.take_line.new.kept c.loop-kept.schedule c.take_line.new.schedule c.loop-kept.text.now) c.in-Not.is c.in_ok-rest.ensures.step in
     bad moved.left moved.stands c.args.ask.prefix (moved.forth c.args.ask.prefix is)
 
 pub loop-kept-preserved : goal.loop-kept-preserved
 loop-kept-preserved c = record {
   moved = λ lines stands.
       let moved = c.loop-kept.invariant.moved lines stands in
-      let on : IsStep c.args.ask.rules c.loop-kept.kept c.take_line.new.kept c.loop-kept.replay c.take_line.new.replay c.loop-kept.text.now (On c.in-On.rest) = subst
-      (IsStep c.args.ask.rules c.loop-kept.kept c.take_line.new.kept c.loop-kept.replay c.take_line.new.replay c.loop-kept.text.now) c.in-On.is c.in_ok-rest.ensures.step in
-      let more = moved_on c.args.ask.rules c.args.kept.now c.loop-kept.kept c.take_line.new.kept c.loop-kept.replay c.take_line.new.replay lines c.args.audit.now c.loop-kept.text.now c.in-On.rest.now
+      let on : IsStep c.args.ask.rules c.loop-kept.kept c.take_line.new.kept c.loop-kept.schedule c.take_line.new.schedule c.loop-kept.text.now (On c.in-On.rest) = subst
+      (IsStep c.args.ask.rules c.loop-kept.kept c.take_line.new.kept c.loop-kept.schedule c.take_line.new.schedule c.loop-kept.text.now) c.in-On.is c.in_ok-rest.ensures.step in
+      let more = moved_on c.args.ask.rules c.args.kept.now c.loop-kept.kept c.take_line.new.kept c.loop-kept.schedule c.take_line.new.schedule lines c.args.audit.now c.loop-kept.text.now
+      c.in-On.rest.now
       moved (on moved.left moved.stands) in
-      moved_begun c.args.ask.rules c.args.kept.now c.take_line.new.kept c.take_line.new.replay c.begin-in-loop-kept.new.self lines c.args.audit.now c.in-On.rest.now more
+      moved_begun c.args.ask.rules c.args.kept.now c.take_line.new.kept c.take_line.new.schedule c.begin-in-loop-kept.new.self lines c.args.audit.now c.in-On.rest.now more
       (c.in_ok-begin-2.ensures.lines more.left more.stands);
   begun = c.in_ok-begin-2.ensures.begun;
 }
@@ -28,6 +29,6 @@ loop-kept-preserved c = record {
 pub returns : goal.returns
 returns c lines stands =
     let moved = c.loop-kept.invariant.moved lines stands in
-    says_map c.finish.result (IsLegalFrom c.args.ask.prefix c.args.ask.rules c.loop-kept.kept moved.left c.loop-kept.text.now)
+    says_map c.judge.result (IsLegalFrom c.args.ask.prefix c.args.ask.rules c.loop-kept.kept moved.left c.loop-kept.text.now)
     (IsLegalFrom c.args.ask.prefix c.args.ask.rules c.args.kept.now lines c.args.audit.now)
-    (moved.back c.args.ask.prefix) (moved.forth c.args.ask.prefix) (c.finish.ensures c.args.ask.rules moved.left moved.stands)
+    (moved.back c.args.ask.prefix) (moved.forth c.args.ask.prefix) (c.judge.ensures c.args.ask.rules moved.left moved.stands)

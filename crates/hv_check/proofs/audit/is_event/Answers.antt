@@ -1,4 +1,4 @@
-use Rattle.hv_check.proofs.Texts.{event_none}
+use Rattle.hv_check.proofs.LineTexts.{event_none}
 use Rattle.hv_check.proofs.audit.is_event.Goals as goal
 
 pub returns-in-len1-up-clause-none : goal.returns-in-len1-up-clause-none

@@ -1,4 +1,4 @@
-use Rattle.std.proofs.Common.{◌≡◌, ◌<◌, ◌≤◌, ◌≢◌, ℕ, ◌+◌, ◌-◌, List, [], ◌∷◌, ◌++◌, length, get_or, take, drop, refl, sym, ap, ◌∙◌, subst, arith, inl, inr, true, false, Bool, None, Some}
+use Rattle.std.proofs.Common.{◌≢◌, ◌-◌, length, take, drop, sym, ◌∙◌, true, false}
 use Rattle.std.proofs.Common.{length-take-le, take-append-drop}
 use Rattle.std.proofs.lemmas.Bool.{false≢true}
 use Rattle.hv_check.proofs.Compared.{begins_not, same_bytes}

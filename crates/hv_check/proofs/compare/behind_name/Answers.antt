@@ -1,4 +1,4 @@
-use Rattle.std.proofs.Common.{◌≡◌, ◌<◌, ◌-◌, List, ℕ, length, take, drop, arith, sym, length-drop, take_all}
+use Rattle.std.proofs.Common.{◌≡◌, ◌-◌, length, take, drop, arith, length-drop, take_all}
 use Rattle.hv_check.proofs.Compared.{some_bytes, space_behind, space_nowhere}
 use Rattle.hv_check.proofs.compare.behind_name.Goals as goal
 

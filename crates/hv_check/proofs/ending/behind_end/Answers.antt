@@ -1,4 +1,4 @@
-use Rattle.std.proofs.Common.{◌≡◌, ◌<◌, ◌≤◌, ◌≢◌, ℕ, ◌+◌, ◌-◌, List, [], ◌∷◌, ◌++◌, length, get_or, take, drop, refl, sym, ap, ◌∙◌, subst, arith, inl, inr, true, false, Bool, None, Some, append-nil}
+use Rattle.std.proofs.Common.{◌≡◌, ℕ, ◌+◌, ◌-◌, List, ◌++◌, ap, ◌∙◌}
 use Rattle.std.proofs.Common.{decimal}
 use Rattle.hv_check.proofs.Compared.{end_cancel, none_map}
 use Rattle.hv_check.proofs.ending.behind_end.Goals as goal

@@ -1,4 +1,4 @@
-use Rattle.std.proofs.Common.{◌≡◌, ◌<◌, ◌≤◌, ◌≢◌, ℕ, ◌+◌, ◌-◌, List, [], ◌∷◌, ◌++◌, length, get_or, take, drop, refl, sym, ap, ◌∙◌, subst, arith, inl, inr, true, false, Bool, None, Some, append-nil}
+use Rattle.std.proofs.Common.{◌-◌}
 use Rattle.hv_script.specs.Reading.{said}
 use Rattle.hv_check.proofs.Reading.{script_read}
 use Rattle.hv_check.proofs.entry.verdict_of.Goals as goal

@@ -1,5 +1,5 @@
-use Rattle.hv_check.proofs.Named.{by_read, no_number, no_part, no_vp, part_read, vp_read}
-use Rattle.std.proofs.Common.{None, Some, ℕ, List, ◌≡◌, rules}
+use Rattle.hv_check.proofs.NamedProcessor.{by_read, no_number, no_part, no_vp, part_read, vp_read}
+use Rattle.std.proofs.Common.{None, Some, ◌≡◌}
 use Rattle.hv_check.proofs.reader.processor.Goals as goal
 
 pub returns-in_err-behind : goal.returns-in_err-behind

@@ -1,5 +1,5 @@
 use Rattle.std.proofs.Common.{◌∙◌, ap, arith, length, subst, ℕ}
-use Rattle.hv_draw.proofs.Ran.{AreMost, running_more, running_stops}
+use Rattle.hv_draw.proofs.RunLines.{AreMost, running_more, running_stops}
 use Rattle.hv_draw.proofs.in_order.run_in_order.Goals as goal
 
 pub returns-then-most-eq0 : goal.returns-then-most-eq0

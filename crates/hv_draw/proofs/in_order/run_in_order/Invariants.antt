@@ -1,6 +1,6 @@
 -- The lines so far were run.
 use Rattle.std.proofs.Common.{length}
-use Rattle.hv_draw.proofs.Ran.{IsRunning}
+use Rattle.hv_draw.proofs.RunLines.{IsRunning}
 use Rattle.hv_draw.proofs.in_order.run_in_order.Given as goal
 
 abbrev pub invariant-loop-line : goal.invariant-loop-line

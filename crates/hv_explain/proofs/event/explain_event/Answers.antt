@@ -1,5 +1,5 @@
 use Rattle.std.proofs.Common.{length, ap, ◌∙◌}
-use Rattle.hv_explain.proofs.Written.{told_one}
+use Rattle.hv_explain.proofs.WrittenLines.{told_one}
 use Rattle.hv_explain.proofs.event.explain_event.Goals as goal
 
 pub returns-in-Ok-clause-told : goal.returns-in-Ok-clause-told

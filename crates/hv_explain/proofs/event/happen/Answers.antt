@@ -1,6 +1,6 @@
 use Rattle.std.proofs.Common.{ap, ◌∙◌, List, ℕ}
 use Rattle.hv_policy.specs.Parts.{reply_of}
-use Rattle.hv_explain.proofs.Written.{happened}
+use Rattle.hv_explain.proofs.WrittenLines.{happened}
 use Rattle.hv_explain.proofs.event.happen.Goals as goal
 
 pub returns-in-Ok-answer-clause-happened : goal.returns-in-Ok-answer-clause-happened

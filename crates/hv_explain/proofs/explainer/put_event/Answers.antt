@@ -1,4 +1,4 @@
-use Rattle.hv_explain.proofs.Written.{line_put}
+use Rattle.hv_explain.proofs.WrittenLines.{line_put}
 use Rattle.hv_explain.proofs.explainer.put_event.Goals as goal
 
 pub returns : goal.returns

@@ -1,4 +1,4 @@
-use Rattle.hv_explain.proofs.Written.{head_written, ok_then}
+use Rattle.hv_explain.proofs.WrittenLines.{head_written, ok_then}
 use Rattle.hv_explain.proofs.explainer.put_head.Goals as goal
 
 pub returns : goal.returns

@@ -1,6 +1,6 @@
 use Rattle.std.proofs.Common.{ℕ, subst, Option}
 use Rattle.hv_explain.specs.Written.{HasWrittenElement}
-use Rattle.hv_explain.proofs.Whole.{begun_ends, begun_more}
+use Rattle.hv_explain.proofs.AskedActions.{begun_ends, begun_more}
 use Rattle.hv_explain.proofs.run.explain_call.Goals as goal
 
 pub loop-next-preserved : goal.loop-next-preserved

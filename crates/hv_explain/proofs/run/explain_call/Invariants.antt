@@ -1,7 +1,7 @@
 use Rattle.std.proofs.Common.{◌-◌}
 use Rattle.hv_history.specs.Kept.{IsRun}
 use Rattle.hv_history.specs.Run.{start_of}
-use Rattle.hv_explain.proofs.Whole.{HasBegun}
+use Rattle.hv_explain.proofs.AskedActions.{HasBegun}
 use Rattle.hv_explain.proofs.run.explain_call.Given as goal
 
 abbrev pub invariant-loop-next : goal.invariant-loop-next

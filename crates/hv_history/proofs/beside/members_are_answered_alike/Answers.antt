@@ -1,5 +1,5 @@
 use Rattle.std.proofs.Common.{rules}
-use Rattle.hv_history.proofs.Paired.{answered_alike, left_alike}
+use Rattle.hv_history.proofs.PairedHistories.{answered_alike, left_alike}
 use Rattle.hv_history.specs.Kept.{IsRun}
 use Rattle.hv_history.proofs.beside.members_are_answered_alike.Goals as goal
 

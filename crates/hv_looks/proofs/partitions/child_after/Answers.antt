@@ -1,6 +1,6 @@
 use Rattle.std.proofs.Common.{◌≡◌, true, Some, None, sym, ◌∙◌}
 use Rattle.std.specs.FinMap.{contains_key}
-use Rattle.hv_looks.proofs.Parts.{child_is, no_children}
+use Rattle.hv_looks.proofs.PartitionLooks.{child_is, no_children}
 use Rattle.hv_looks.proofs.partitions.child_after.Goals as goal
 
 pub returns-in-Some : goal.returns-in-Some

@@ -1,5 +1,5 @@
 use Rattle.std.proofs.Common.{◌∙◌, arith, sym}
-use Rattle.hv_looks.proofs.Owners.{has_there, nobody, owner_is, too_high}
+use Rattle.hv_looks.proofs.PageOwners.{has_there, nobody, owner_is, too_high}
 use Rattle.hv_looks.proofs.partitions.page_owner.Goals as goal
 
 pub returns-then-page-ge-MOST : goal.returns-then-page-ge-MOST

@@ -1,6 +1,6 @@
 use Rattle.std.proofs.Common.{◌≡◌, length, rules}
 use Rattle.hv_tree.specs.Rows.{children}
-use Rattle.hv_looks.proofs.Parts.{look_is}
+use Rattle.hv_looks.proofs.PartitionLooks.{look_is}
 use Rattle.hv_looks.proofs.partitions.partition_in.Goals as goal
 
 pub returns : goal.returns

@@ -2,7 +2,7 @@ use Rattle.std.proofs.Common.{List, Option, subst, sym, ℕ}
 use Rattle.hv_machine.specs.Access.{access_event}
 use Rattle.hv_policy.specs.declared.event.Access.TheVariants.{ReadFlags}
 use Rattle.hv_looks.specs.Look.{ShowsServed}
-use Rattle.hv_looks.proofs.Served.{flags_served}
+use Rattle.hv_looks.proofs.LooksAsAccesses.{flags_served}
 use Rattle.hv_looks.proofs.processors.flags.Goals as goal
 
 pub returns-clause-served : goal.returns-clause-served

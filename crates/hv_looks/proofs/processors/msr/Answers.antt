@@ -3,7 +3,7 @@ use Rattle.std.specs.Int.{w64, to_le_bytes}
 use Rattle.hv_machine.specs.Access.{access_event}
 use Rattle.hv_policy.specs.declared.event.Access.TheVariants.{ReadMsr}
 use Rattle.hv_looks.specs.Look.{ShowsServed}
-use Rattle.hv_looks.proofs.Served.{msr_served}
+use Rattle.hv_looks.proofs.LooksAsAccesses.{msr_served}
 use Rattle.hv_looks.proofs.processors.msr.Goals as goal
 
 pub returns-clause-served : goal.returns-clause-served

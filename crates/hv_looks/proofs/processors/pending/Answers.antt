@@ -4,7 +4,7 @@ use Rattle.hv_machine.specs.Access.{access_event}
 use Rattle.hv_mail.specs.Words.{numbers_of}
 use Rattle.hv_policy.specs.declared.event.Access.TheVariants.{TakeInterrupt}
 use Rattle.hv_looks.specs.Look.{ShowsServed, highest_of, pending_seen}
-use Rattle.hv_looks.proofs.Served.{pending_served}
+use Rattle.hv_looks.proofs.LooksAsAccesses.{pending_served}
 use Rattle.hv_looks.proofs.processors.pending.Goals as goal
 
 twice : (words : Option (List ℕ)) → option_map highest_of (option_map numbers_of words) ≡ option_map (λ words. highest_of (numbers_of words)) words

@@ -2,7 +2,7 @@ use Rattle.std.proofs.Common.{List, Option, subst, sym, ℕ}
 use Rattle.hv_machine.specs.Access.{access_event}
 use Rattle.hv_policy.specs.declared.event.Access.TheVariants.{ReadSlot}
 use Rattle.hv_looks.specs.Look.{ShowsServed}
-use Rattle.hv_looks.proofs.Served.{slot_served}
+use Rattle.hv_looks.proofs.LooksAsAccesses.{slot_served}
 use Rattle.hv_looks.proofs.processors.slot.Goals as goal
 
 pub returns-clause-served : goal.returns-clause-served

@@ -1,6 +1,6 @@
 use Rattle.std.proofs.Common.{◌∙◌, ◌<◌, ◌≤◌, ap, arith, Some}
 use Rattle.hv_defs.specs.declared.sizes.TheConstants.{SINTS}
-use Rattle.hv_looks.proofs.Seen.{no_slot, past_sint, slot_is}
+use Rattle.hv_looks.proofs.ProcessorLooks.{no_slot, past_sint, slot_is}
 use Rattle.hv_looks.proofs.processors.slot_in.Goals as goal
 
 pub returns-then-from-ge-SINTS : goal.returns-then-from-ge-SINTS

@@ -1,4 +1,4 @@
-use Rattle.hv_looks.proofs.Seen.{tree_below, tree_lawful, tree_tied}
+use Rattle.hv_looks.proofs.ProcessorLooks.{tree_below, tree_lawful, tree_tied}
 use Rattle.hv_looks.proofs.tree.tree_of.Goals as goal
 
 pub returns-clause-tied : goal.returns-clause-tied

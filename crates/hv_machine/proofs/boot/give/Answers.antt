@@ -3,7 +3,7 @@ use Rattle.std.specs.FinSet as set
 use Rattle.std.specs.FinSet.{contains-empty}
 use Rattle.hv_defs.proofs.Ranges.{no_range}
 use Rattle.hv_pages.specs.PageSet.{Pages}
-use Rattle.hv_partition.proofs.Written.{with_twice}
+use Rattle.hv_partition.proofs.ReplacedPages.{with_twice}
 use Rattle.hv_partition.specs.Partition.{PartitionState, pages_in, with_pages}
 use Rattle.hv_partition.specs.declared.kind.PageKind.{PageKind}
 use Rattle.hv_partition.specs.declared.kind.PageKind.TheVariants.{Loose, Pooled}

@@ -1,4 +1,4 @@
-use Rattle.hv_machine.proofs.Root.{root_made}
+use Rattle.hv_machine.proofs.BootedRoot.{root_made}
 use Rattle.hv_machine.proofs.boot.make_root.Goals as goal
 
 pub returns : goal.returns

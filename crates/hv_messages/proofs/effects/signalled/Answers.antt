@@ -1,5 +1,5 @@
 use Rattle.std.proofs.Common.{sym, ◌∙◌}
-use Rattle.hv_effect.proofs.Signalled.{signal_again, signal_turns}
+use Rattle.hv_effect.proofs.FlagEffects.{signal_again, signal_turns}
 use Rattle.hv_refine.specs.Tie.{vp_row_of}
 use Rattle.hv_messages.proofs.effects.signalled.Goals as goal
 

@@ -1,5 +1,5 @@
 use Rattle.std.proofs.Common.{sym, ◌∙◌, arith}
-use Rattle.hv_messages.proofs.Told.{freed_told}
+use Rattle.hv_messages.proofs.VpEffects.{freed_told}
 use Rattle.hv_messages.proofs.effects.slot_cleared.Goals as goal
 
 pub returns : goal.returns

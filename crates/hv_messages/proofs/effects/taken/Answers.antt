@@ -1,5 +1,5 @@
 use Rattle.std.proofs.Common.{sym, ◌∙◌}
-use Rattle.hv_effect.proofs.Taken.{interrupt_taken, no_interrupt}
+use Rattle.hv_effect.proofs.SlotAndVectorEffects.{interrupt_taken, no_interrupt}
 use Rattle.hv_refine.specs.Tie.{vp_row_of}
 use Rattle.hv_messages.proofs.effects.taken.Goals as goal
 

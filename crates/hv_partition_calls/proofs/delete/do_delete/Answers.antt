@@ -1,8 +1,8 @@
 use Rattle.std.proofs.Common.{◌≡◌, true, rules}
 use Rattle.hv_tree.specs.Rows.{is_leaf}
-use Rattle.hv_partition_calls.proofs.Lent.{can_take_over, still_leaf}
+use Rattle.hv_partition_calls.proofs.LentPartition.{can_take_over, still_leaf}
 use Rattle.hv_partition_calls.proofs.Needs.{is_ending}
-use Rattle.hv_partition_calls.proofs.Told.{has_deleted}
+use Rattle.hv_partition_calls.proofs.LifeEffects.{has_deleted}
 use Rattle.hv_partition_calls.proofs.delete.do_delete.Goals as goal
 
 pub unreachable-requires : goal.unreachable-requires

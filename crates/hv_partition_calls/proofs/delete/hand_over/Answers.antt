@@ -1,4 +1,4 @@
-use Rattle.hv_partition_calls.proofs.Lent.{has_taken_over}
+use Rattle.hv_partition_calls.proofs.LentPartition.{has_taken_over}
 use Rattle.hv_partition_calls.proofs.delete.hand_over.Goals as goal
 
 pub returns : goal.returns

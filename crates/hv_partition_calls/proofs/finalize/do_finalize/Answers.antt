@@ -1,5 +1,5 @@
 use Rattle.std.proofs.Common.{true, false, sym, ◌∙◌}
-use Rattle.hv_partition_calls.proofs.Told.{has_finalized}
+use Rattle.hv_partition_calls.proofs.LifeEffects.{has_finalized}
 use Rattle.hv_partition_calls.proofs.finalize.do_finalize.Goals as goal
 
 pub returns-then-finalize : goal.returns-then-finalize

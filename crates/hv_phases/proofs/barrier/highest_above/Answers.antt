@@ -1,7 +1,7 @@
 use Rattle.std.proofs.Common.{◌≡◌, ℕ, arith, get_or, max, rules, subst, sym}
 use Rattle.hv_phases.specs.PassMap.{IsWithin}
 use Rattle.hv_shared.specs.Receipts.{list_of}
-use Rattle.hv_phases.proofs.Numbers.{above_all, above_more}
+use Rattle.hv_phases.proofs.ReceiptNumbers.{above_all, above_more}
 use Rattle.hv_phases.proofs.barrier.highest_above.Goals as goal
 
 pub loop-at-init : goal.loop-at-init

@@ -1,7 +1,7 @@
 use Rattle.std.proofs.Common.{◌≡◌, List, [], ℕ, ◌+◌, arith, ap, subst, sym, take, ◌∙◌, All, map, Contains, take_all, Global}
 use Rattle.hv_phases.specs.PassMap.{is_key, key_of}
 use Rattle.hv_phases.specs.Stops.{callers_in}
-use Rattle.hv_phases.proofs.Named.{all_callers, caller_of, in_order_more, one_more}
+use Rattle.hv_phases.proofs.NamedProcessors.{all_callers, caller_of, in_order_more, one_more}
 use Rattle.hv_phases.proofs.callers.callers_of.Goals as goal
 use Rattle.hv_script.specs.declared.line.Line.{Line}
 use Rattle.indexmap.specs.IndexSet.{insert_key}

@@ -1,7 +1,7 @@
 use Rattle.std.proofs.Common.{◌≡◌, List, None, [], ◌∷◌, subst, false, true, rules, Global}
-use Rattle.hv_phases.specs.PassMap.{Each, HasBegunBy, HasRunGroup, HasRunUpTo}
-use Rattle.hv_phases.proofs.Going.{goes_at_first, goes_begun, goes_on, goes_stopped}
-use Rattle.hv_phases.proofs.Handing.{line_more, up_to_none}
+use Rattle.hv_phases.specs.PassMap.{HasRunGroup, HasRunUpTo}
+use Rattle.hv_phases.proofs.LinesBegun.{goes_at_first, goes_begun, goes_on, goes_stopped}
+use Rattle.hv_phases.proofs.HandedLines.{line_more, up_to_none}
 use Rattle.hv_phases.proofs.in_order.run_in_order.Goals as goal
 use Rattle.hv_script.specs.declared.line.Line.{Line}
 

@@ -1,6 +1,6 @@
 use Rattle.std.proofs.Common.{◌≡◌, None, false, true, length}
 use Rattle.hv_phases.specs.PassMap.{Each, HasRunUpTo}
-use Rattle.hv_phases.proofs.Going.{Goes}
+use Rattle.hv_phases.proofs.LinesBegun.{Goes}
 use Rattle.hv_phases.proofs.in_order.run_in_order.Given as goal
 
 abbrev pub invariant-loop-line : goal.invariant-loop-line

@@ -1,8 +1,8 @@
 use Rattle.std.proofs.Common.{◌∙◌, ℕ, List, length, ap, arith, subst, Result, Ok, Err, IfOk, map}
 use Rattle.std.proofs.lemmas.List.{length-map}
 use Rattle.hv_phases.specs.PassMap.{HasTaken}
-use Rattle.hv_phases.proofs.Lending.{phase_run}
-use Rattle.hv_phases.proofs.Worked.{worked_from}
+use Rattle.hv_phases.proofs.WorksReturned.{phase_run}
+use Rattle.hv_phases.proofs.PhaseBegun.{worked_from}
 use Rattle.hv_phases.proofs.in_threads.run_works.Goals as goal
 use Rattle.hv_threads.specs.declared.phase.Work.{Work}
 

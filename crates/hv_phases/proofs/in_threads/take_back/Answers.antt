@@ -1,11 +1,10 @@
-use Rattle.std.proofs.Common.{◌≡◌, ℕ, suc, List, [], ◌∷◌, ◌++◌, ap, append_assoc, arith, drop, get_or, length, length-append, sym, subst, vec_len, ◌∙◌, None, Some, true, false, inl, inr, refl}
+use Rattle.std.proofs.Common.{◌≡◌, ℕ, suc, List, [], ◌∷◌, ◌++◌, ap, arith, drop, get_or, length, length-append, sym, subst, ◌∙◌, Some, true, false, inl, inr, refl}
 use Rattle.std.proofs.Math.Seq.{drop-cons}
-use Rattle.hv_phases.specs.PassMap.{Each, HasJoined, HasTaken, IsTakenFrom}
-use Rattle.hv_phases.proofs.Lending.{taken_more}
-use Rattle.hv_phases.proofs.Told.{all_taken, none_taken, noted_finished, noted_stopped, one_taken, stop_told}
+use Rattle.hv_phases.specs.PassMap.{HasJoined, HasTaken}
+use Rattle.hv_phases.proofs.WorksReturned.{taken_more}
+use Rattle.hv_phases.proofs.FirstStopped.{none_taken, noted_finished, noted_stopped, one_taken}
 use Rattle.hv_phases.proofs.in_threads.take_back.Goals as goal
 use Rattle.hv_shared.specs.Receipts.{list_of}
-use Rattle.hv_threads.specs.declared.phase.Done.{Done}
 
 pub loop-done-init : goal.loop-done-init
 loop-done-init g c = record { room = omega arith; back = none_taken c.args.order.now c.args.dones.items c.args.counts.now c.args.last c.args.pass_map.now }

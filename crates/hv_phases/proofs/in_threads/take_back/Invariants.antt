@@ -1,5 +1,5 @@
 use Rattle.std.proofs.Common.{◌≤◌, length, vec_len}
-use Rattle.hv_phases.proofs.Told.{AreTakenBack}
+use Rattle.hv_phases.proofs.FirstStopped.{AreTakenBack}
 use Rattle.hv_phases.proofs.in_threads.take_back.Given as goal
 
 abbrev pub invariant-loop-done : goal.invariant-loop-done

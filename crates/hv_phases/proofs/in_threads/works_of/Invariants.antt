@@ -1,12 +1,10 @@
-use Rattle.std.proofs.Common.{length}
-use Rattle.hv_phases.specs.PassMap.{Each, HasFewer, HasHandedOut, IsBusy}
+use Rattle.std.proofs.Common.{◌≡◌, ◌++◌, List, length, reverse}
+use Rattle.hv_phases.proofs.HandedTurns.{AreOut}
+use Rattle.hv_phases.specs.declared.turn.Turn.{Turn}
 use Rattle.hv_phases.proofs.in_threads.works_of.Given as goal
 
-abbrev pub invariant-loop-line : goal.invariant-loop-line
-invariant-loop-line g l = record {
-  handed : HasHandedOut l.fn.first l.fn.left.items l.left.items (λ past taken. Each (IsBusy past taken) l.busy) l.fn.pass_map l.pass_map;
-  fewer : HasFewer l.fn.pass_map l.pass_map;
-}
+abbrev pub invariant-loop-turn : goal.invariant-loop-turn
+invariant-loop-turn g l = (done : List Turn) × (done ++ reverse l.left.items ≡ l.fn.turns.items) × AreOut done l.works.items l.fn.pass_map l.pass_map
 
-abbrev pub decreases-loop-line : goal.decreases-loop-line
-decreases-loop-line g l = length l.left.items
+abbrev pub decreases-loop-turn : goal.decreases-loop-turn
+decreases-loop-turn g l = length l.left.items

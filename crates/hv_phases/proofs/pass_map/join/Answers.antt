@@ -1,6 +1,6 @@
 use Rattle.std.proofs.Common.{ℕ, Some, ap, subst, ◌∙◌}
 use Rattle.hv_phases.specs.PassMap.{HasJoined, is_key, key_of}
-use Rattle.hv_phases.proofs.Worked.{joined_from}
+use Rattle.hv_phases.proofs.PhaseBegun.{joined_from}
 use Rattle.hv_phases.proofs.pass_map.join.Goals as goal
 use Rattle.indexmap.specs.IndexMap.{UpdatesBy}
 

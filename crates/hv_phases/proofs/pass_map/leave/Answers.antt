@@ -1,5 +1,5 @@
 use Rattle.std.proofs.Common.{List, Some, arith, sym, subst, ◌∙◌, ◌+◌, take_all}
-use Rattle.hv_phases.proofs.Maps.{found_at}
+use Rattle.hv_phases.proofs.ProcessorMaps.{found_at}
 use Rattle.hv_phases.proofs.PassMaps.{AreSent, none_sent, one_sent}
 use Rattle.hv_phases.proofs.pass_map.leave.Goals as goal
 use Rattle.hv_shared.specs.PassValue.{PassValue}

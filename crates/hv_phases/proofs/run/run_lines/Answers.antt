@@ -2,7 +2,7 @@ use Rattle.std.proofs.Common.{◌≡◌, [], ◌∙◌, refl, sym, true, rules, 
 use Rattle.std.proofs.lemmas.List.{nil_from_length}
 use Rattle.hv_phases.specs.PassMap.{AreCallersOf}
 use Rattle.hv_phases.proofs.PassMaps.{part_of_none}
-use Rattle.hv_phases.proofs.Phased.{all_in_order, all_phased, all_run, nothing}
+use Rattle.hv_phases.proofs.PhasedHistories.{all_in_order, all_phased, all_run, nothing}
 use Rattle.hv_phases.proofs.run.run_lines.Goals as goal
 
 pub returns-then-is_empty : goal.returns-then-is_empty

@@ -1,9 +1,7 @@
-use Rattle.std.proofs.Common.{IfNone, subst, sym, All}
-use Rattle.std.proofs.lemmas.List.Elements.{All-nil}
-use Rattle.hv_phases.specs.Begun.{HasBegun}
+use Rattle.std.proofs.Common.{IfNone}
 use Rattle.hv_phases.specs.PassMap.{Each, HasBegunBy, HasRunAll}
-use Rattle.hv_phases.proofs.PassMaps.{from_begun, from_different, have_run, none_different}
-use Rattle.hv_phases.proofs.Handing.{if_none}
+use Rattle.hv_phases.proofs.PassMaps.{from_begun, from_different, have_run}
+use Rattle.hv_phases.proofs.HandedLines.{if_none}
 use Rattle.hv_phases.proofs.run.run_on.Goals as goal
 use Rattle.hv_phases.proofs.run.run_on.Goals.{then-serial, else-serial}
 

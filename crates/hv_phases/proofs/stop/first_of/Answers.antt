@@ -1,7 +1,7 @@
 use Rattle.std.proofs.Common.{◌≤◌, ◌∙◌, arith, sym}
 use Rattle.std.proofs.lemmas.Bool.{false≢true}
 use Rattle.hv_phases.specs.Stops.{place_in}
-use Rattle.hv_phases.proofs.Told.{place_at, place_beyond, place_most}
+use Rattle.hv_phases.proofs.FirstStopped.{place_at, place_beyond, place_most}
 use Rattle.hv_phases.proofs.stop.first_of.Goals as goal
 use Rattle.hv_shared.proofs.Callers.{is_itself, same_caller}
 

@@ -1,7 +1,7 @@
 use Rattle.std.proofs.Common.{refl}
 use Rattle.std.proofs.lemmas.Result.{err_from_is_err_and}
-use Rattle.hv_effect.proofs.Others.{untold}
-use Rattle.hv_port_calls.proofs.Linked.{carried, conn_added, put_back}
+use Rattle.hv_effect.proofs.PagesAndVps.{untold}
+use Rattle.hv_port_calls.proofs.ChangedLinks.{carried, conn_added, put_back}
 use Rattle.hv_port_calls.proofs.port_connection.do_connect.Goals as goal
 
 pub returns-in_err-reserve_conn : goal.returns-in_err-reserve_conn

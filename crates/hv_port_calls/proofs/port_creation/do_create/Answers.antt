@@ -1,7 +1,7 @@
 use Rattle.std.proofs.Common.{refl}
 use Rattle.std.proofs.lemmas.Result.{err_from_is_err_and}
-use Rattle.hv_effect.proofs.Others.{untold}
-use Rattle.hv_port_calls.proofs.Linked.{carried, port_added, put_back}
+use Rattle.hv_effect.proofs.PagesAndVps.{untold}
+use Rattle.hv_port_calls.proofs.ChangedLinks.{carried, port_added, put_back}
 use Rattle.hv_port_calls.proofs.port_creation.do_create.Goals as goal
 
 pub returns-in_err-reserve_port : goal.returns-in_err-reserve_port

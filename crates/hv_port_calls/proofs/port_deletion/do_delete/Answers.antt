@@ -1,6 +1,6 @@
 use Rattle.std.proofs.Common.{refl}
-use Rattle.hv_effect.proofs.Others.{untold}
-use Rattle.hv_port_calls.proofs.Linked.{carried, port_removed}
+use Rattle.hv_effect.proofs.PagesAndVps.{untold}
+use Rattle.hv_port_calls.proofs.ChangedLinks.{carried, port_removed}
 use Rattle.hv_port_calls.proofs.port_deletion.do_delete.Goals as goal
 
 pub returns : goal.returns

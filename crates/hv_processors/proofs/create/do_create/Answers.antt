@@ -1,6 +1,6 @@
 use Rattle.std.proofs.Common.{◌≡◌, false, refl, rules}
 use Rattle.std.specs.FinMap.{contains_key}
-use Rattle.hv_processors.proofs.Made.{added_tied, added_told}
+use Rattle.hv_processors.proofs.CreatedProcessor.{added_tied, added_told}
 use Rattle.hv_processors.proofs.create.do_create.Goals as goal
 
 pub returns : goal.returns

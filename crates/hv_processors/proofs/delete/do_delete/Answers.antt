@@ -1,6 +1,6 @@
 use Rattle.std.proofs.Common.{◌≡◌, true, refl, rules}
 use Rattle.std.specs.FinMap.{contains_key}
-use Rattle.hv_processors.proofs.Made.{removed_tied, removed_told}
+use Rattle.hv_processors.proofs.CreatedProcessor.{removed_tied, removed_told}
 use Rattle.hv_processors.proofs.delete.do_delete.Goals as goal
 
 pub returns : goal.returns

@@ -1,5 +1,5 @@
 use Rattle.std.proofs.Common.{refl, ◌∙◌, rules}
-use Rattle.hv_effect.proofs.Others.{untold}
+use Rattle.hv_effect.proofs.PagesAndVps.{untold}
 use Rattle.hv_processors.proofs.get_registers.get_vp_registers.Goals as goal
 
 pub returns-in-Err-ask_get : goal.returns-in-Err-ask_get

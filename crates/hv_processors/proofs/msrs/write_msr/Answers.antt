@@ -3,7 +3,7 @@ use Rattle.hv_defs.specs.Registers.{name_of_msr}
 use Rattle.hv_partition.specs.Partition.{with_vp_of}
 use Rattle.hv_tree.specs.Rows.{change}
 use Rattle.hv_vp.specs.Vp.{VpState}
-use Rattle.hv_processors.proofs.Ended.{set_tied, vp_still}
+use Rattle.hv_processors.proofs.WrittenRegister.{set_tied, vp_still}
 use Rattle.hv_processors.proofs.msrs.write_msr.Goals as goal
 
 pub returns-in-Ok : goal.returns-in-Ok

@@ -2,7 +2,7 @@ use Rattle.std.proofs.Common.{◌≡◌, Some, refl, sym, ap, ◌∙◌, option_
 use Rattle.std.specs.FinMap.{get}
 use Rattle.hv_partition.specs.Partition.{PartitionState, with_vp_of}
 use Rattle.hv_tree.proofs.Laws.{change-of}
-use Rattle.hv_processors.proofs.Ended.{set_tied}
+use Rattle.hv_processors.proofs.WrittenRegister.{set_tied}
 use Rattle.hv_processors.specs.Place.{vp_at}
 use Rattle.hv_processors.proofs.set_registers.do_set.Goals as goal
 

@@ -6,7 +6,7 @@ use Rattle.hv_effect.specs.Effect.{has_bit, quiet}
 use Rattle.hv_effect.specs.Ended.{vectors_of}
 use Rattle.hv_effect.specs.declared.effect.Effect.{Effect}
 use Rattle.hv_effect.specs.declared.effect.Effect.TheVariants as variant
-use Rattle.hv_processors.proofs.Ended.{vectors_next}
+use Rattle.hv_processors.proofs.WrittenRegister.{vectors_next}
 use Rattle.hv_processors.proofs.writes.ended.Goals.{then-due-sint-eq1, else-due-sint-eq1}
 use Rattle.hv_processors.proofs.writes.ended.Goals as goal
 

@@ -1,4 +1,4 @@
-use Rattle.hv_refine.proofs.Asked.{granted, unmet_caller, unmet_past, unmet_target}
+use Rattle.hv_refine.proofs.TargetFound.{granted, unmet_caller, unmet_past, unmet_target}
 use Rattle.hv_refine.proofs.access.admit.Goals as goal
 
 pub returns-in-Err-clause-unmet : goal.returns-in-Err-clause-unmet

@@ -2,7 +2,7 @@ use Rattle.std.proofs.Common.{length, append-nil}
 use Rattle.std.proofs.Math.Seq.{take-length}
 use Rattle.std.proofs.KnownBytes.{Appends-kept, Appends-trans}
 use Rattle.std.specs.Io.KnownBytes.{Appends}
-use Rattle.hv_run.proofs.Parts.{part_of_first, part_of_second}
+use Rattle.hv_run.proofs.FailedWrites.{part_of_first, part_of_second}
 use Rattle.hv_run.specs.Written.{told_by}
 use Rattle.hv_run.proofs.run.print.Goals.{then-with_table+in_ok-table, else-with_table}
 use Rattle.hv_run.proofs.run.print.Goals as goal

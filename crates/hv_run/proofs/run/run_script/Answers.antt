@@ -2,7 +2,7 @@ use Rattle.std.proofs.Common.{◌∙◌, Result, Ok, Err, OnErr, inr}
 use Rattle.std.proofs.lemmas.Option.{MatchOption-at_none}
 use Rattle.std.proofs.lemmas.Result.{on_ok_weaker}
 use Rattle.hv_script.specs.Reading.{said}
-use Rattle.hv_run.proofs.Parts.{part_of}
+use Rattle.hv_run.proofs.FailedWrites.{part_of}
 use Rattle.hv_run.specs.Written.{HasWritten}
 use Rattle.hv_run.proofs.run.run_script.Goals as goal
 

@@ -1,7 +1,7 @@
 use Rattle.std.proofs.Common.{◌≡◌, ◌∙◌, ◌++◌, codes, decimal, subst}
 use Rattle.std.specs.Io.KnownBytes.{Appends}
 use Rattle.hv_serve.specs.Outcome.{fault_text, why_text}
-use Rattle.hv_serve.proofs.Sent.{three}
+use Rattle.hv_serve.proofs.WrittenParts.{three}
 use Rattle.hv_serve.proofs.answer.put_fault.Goals as goal
 
 pub returns-clause-text : goal.returns-clause-text

@@ -1,5 +1,5 @@
 use Rattle.hv_serve.specs.Bench.{kept_in}
-use Rattle.hv_serve.proofs.Answered.{answered_text}
+use Rattle.hv_serve.proofs.AnswerParts.{answered_text}
 use Rattle.hv_serve.proofs.answer.put_text.Goals as goal
 
 pub returns : goal.returns

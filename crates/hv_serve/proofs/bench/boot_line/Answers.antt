@@ -1,7 +1,7 @@
 use Rattle.std.proofs.Common.{◌≡◌, codes, rules, sym, tests, true}
 use Rattle.hv_script.specs.Words.{begins_with}
 use Rattle.hv_serve.specs.declared.bench.Bench.{Bench}
-use Rattle.hv_serve.proofs.Benches.{booted}
+use Rattle.hv_serve.proofs.BenchSteps.{booted}
 use Rattle.hv_serve.proofs.bench.boot_line.Goals as goal
 
 pub returns-in-Ok : goal.returns-in-Ok

@@ -1,5 +1,5 @@
 use Rattle.std.proofs.lemmas.Result.{err_from_is_err_and}
-use Rattle.hv_serve.proofs.Takes.{cut_faulty, cut_taken}
+use Rattle.hv_serve.proofs.TakenLines.{cut_faulty, cut_taken}
 use Rattle.hv_serve.proofs.bench.do_line.Goals as goal
 
 pub returns-in_err-cut : goal.returns-in_err-cut

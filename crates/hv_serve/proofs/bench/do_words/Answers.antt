@@ -1,8 +1,8 @@
 use Rattle.std.proofs.Common.{◌≡◌, ◌==◌, arith, false, length, sym, ◌∙◌}
 use Rattle.std.proofs.lemmas.Bool.Decides.{nat_tests}
 use Rattle.hv_serve.specs.Session.{read_of}
-use Rattle.hv_serve.proofs.Benches.{is_booted}
-use Rattle.hv_serve.proofs.Takes.{took_request, took_script}
+use Rattle.hv_serve.proofs.BenchSteps.{is_booted}
+use Rattle.hv_serve.proofs.TakenLines.{took_request, took_script}
 use Rattle.hv_serve.proofs.bench.do_words.Goals as goal
 
 pub returns-in-Some : goal.returns-in-Some

@@ -3,8 +3,8 @@ use Rattle.hv_script.specs.declared.fault.FaultKind.{FaultKind}
 use Rattle.hv_serve.specs.Input.{AreKept}
 use Rattle.hv_serve.specs.Meant.{meant}
 use Rattle.hv_serve.specs.Session.{read_of}
-use Rattle.hv_serve.proofs.Becoming.{taken_becomes}
-use Rattle.hv_serve.proofs.Takes.{kept_line, lost_line}
+use Rattle.hv_serve.proofs.LineOutcomes.{taken_becomes}
+use Rattle.hv_serve.proofs.TakenLines.{kept_line, lost_line}
 use Rattle.hv_serve.proofs.bench.take_line.Goals as goal
 
 pub returns-in-Some : goal.returns-in-Some

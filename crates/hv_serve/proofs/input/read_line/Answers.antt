@@ -1,5 +1,5 @@
 use Rattle.std.proofs.Common.{ℕ, Option, subst}
-use Rattle.hv_serve.proofs.Reading.{reading_more}
+use Rattle.hv_serve.proofs.ReadLines.{reading_more}
 use Rattle.hv_serve.specs.Input.{IsNext}
 use Rattle.hv_serve.proofs.input.read_line.Goals as goal
 

@@ -1,5 +1,5 @@
 -- The bytes of the line so far came, and were kept.
-use Rattle.hv_serve.proofs.Reading.{IsReading}
+use Rattle.hv_serve.proofs.ReadLines.{IsReading}
 use Rattle.hv_serve.proofs.input.read_line.Given as goal
 
 abbrev pub invariant-loop : goal.invariant-loop

@@ -1,5 +1,5 @@
 use Rattle.hv_serve.specs.Bench.{kept_in}
-use Rattle.hv_serve.proofs.Answered.{answered_json}
+use Rattle.hv_serve.proofs.AnswerParts.{answered_json}
 use Rattle.hv_serve.proofs.json.put_json.Goals as goal
 
 pub returns-in-Ok : goal.returns-in-Ok

@@ -4,7 +4,7 @@ use Rattle.std.proofs.lemmas.Result.{on_ok_weaker}
 use Rattle.hv_serve.specs.Bench.{kept_in}
 use Rattle.hv_serve.specs.Json.{events_value, fault_value, object_text, shown_member}
 use Rattle.hv_serve.specs.Session.{history_of}
-use Rattle.hv_serve.proofs.Sent.{five}
+use Rattle.hv_serve.proofs.WrittenParts.{five}
 use Rattle.hv_serve.proofs.json.put_object.Goals as goal
 
 pub returns : goal.returns

@@ -2,7 +2,7 @@ use Rattle.std.proofs.Common.{ℕ, ◌≢◌, ◌∙◌, true, false, List, [], 
 use Rattle.std.proofs.lemmas.List.Elements.{All-nil}
 use Rattle.std.proofs.KnownBytes.{Appends-nil}
 use Rattle.hv_serve.specs.Input.{AreKept}
-use Rattle.hv_serve.proofs.Takes.{turned}
+use Rattle.hv_serve.proofs.TakenLines.{turned}
 use Rattle.hv_serve.proofs.session.serve_line.Goals as goal
 
 pub returns-then-is_silent : goal.returns-then-is_silent

@@ -1,7 +1,7 @@
 use Rattle.std.proofs.Common.{Bool, subst}
 use Rattle.std.proofs.lemmas.Result.{on_ok_weaker}
 use Rattle.hv_serve.specs.Turned.{HasTurned}
-use Rattle.hv_serve.proofs.Turning.{served_all, serving_next, serving_none}
+use Rattle.hv_serve.proofs.SessionSteps.{served_all, serving_next, serving_none}
 use Rattle.hv_serve.proofs.session.serve_lines.Goals as goal
 
 pub loop-number-init : goal.loop-number-init

@@ -1,5 +1,5 @@
 use Rattle.std.proofs.Common.{◌<◌, length, ap, ◌∙◌, arith}
-use Rattle.hv_serve.proofs.Showing.{explained}
+use Rattle.hv_serve.proofs.ShownLines.{explained}
 use Rattle.hv_serve.proofs.shown.explanation.Goals as goal
 
 pub returns-in-Ok : goal.returns-in-Ok

@@ -1,5 +1,5 @@
 use Rattle.std.proofs.Common.{◌∙◌, ◌+◌, arith, refl}
-use Rattle.hv_shared.proofs.Packed.{number-push, no_numbers}
+use Rattle.hv_shared.proofs.PackedReceipts.{number-push, no_numbers}
 use Rattle.hv_shared.proofs.receipts.push_numbers.Goals as goal
 
 pub loop-at-init : goal.loop-at-init

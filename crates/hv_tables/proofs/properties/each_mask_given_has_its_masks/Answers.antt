@@ -1,5 +1,5 @@
 use Rattle.std.proofs.Common.{refl}
-use Rattle.hv_tables.proofs.Families.{masks_found}
+use Rattle.hv_tables.proofs.NarrowedFamilies.{masks_found}
 use Rattle.hv_tables.proofs.properties.each_mask_given_has_its_masks.Goals as goal
 
 pub returns-clause-to_a_running_tenant : goal.returns-clause-to_a_running_tenant

@@ -4,7 +4,7 @@ use Rattle.std.proofs.lemmas.Result.{err_from_is_err_and, on_ok_weaker}
 use Rattle.hv_history.specs.History.{entries}
 use Rattle.hv_history.specs.declared.entry.Entry.{Entry}
 use Rattle.hv_text.specs.Audit.{audit_text, entries_text, entry_text}
-use Rattle.hv_text.proofs.Sent.{drop-at, sent-all, sent-none}
+use Rattle.hv_text.proofs.WrittenText.{drop-at, sent-all, sent-none}
 use Rattle.hv_text.proofs.audit_text.audit.Goals as goal
 
 module _ {A : Type 0} (n : ℕ) (es : List (Entry A)) (count : ℕ) (line : List ℕ) where

@@ -2,7 +2,7 @@ use Rattle.std.proofs.Common.{◌≡◌, ◌<◌, [], length, take, ap, arith, a
 use Rattle.std.proofs.KnownBytes.{Appends-trans}
 use Rattle.std.proofs.lemmas.Bool.Decides.{nat_tests}
 use Rattle.std.proofs.lemmas.List.{nil_from_length, take_rest}
-use Rattle.hv_text.proofs.Sent.{sent-more, sent-part, sent-same}
+use Rattle.hv_text.proofs.WrittenText.{sent-more, sent-part, sent-same}
 use Rattle.hv_text.proofs.put.put.Goals as goal
 use Rattle.hv_text.proofs.put.put.Goals.{in-Ok, in-Err+else-ne}
 

@@ -7,7 +7,7 @@ use Rattle.hv_tree.specs.Rows.{Row, Rows}
 use Rattle.hv_text.specs.Rows.{pages_in, pages_of, row_line, rows_text}
 use Rattle.hv_text.specs.Table.{partition_text, text_of}
 use Rattle.hv_text.proofs.Rows.{row-of}
-use Rattle.hv_text.proofs.Sent.{drop-at, sent-all, sent-none}
+use Rattle.hv_text.proofs.WrittenText.{drop-at, sent-all, sent-none}
 use Rattle.hv_text.proofs.table_text.put_rows.Goals as goal
 
 -- the next line, and what is left after it

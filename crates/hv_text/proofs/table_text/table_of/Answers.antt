@@ -1,4 +1,4 @@
-use Rattle.hv_text.proofs.Tied.{table_of}
+use Rattle.hv_text.proofs.TableOfState.{table_of}
 use Rattle.hv_text.proofs.table_text.table_of.Goals as goal
 
 pub returns-in-Ok-clause-ok : goal.returns-in-Ok-clause-ok

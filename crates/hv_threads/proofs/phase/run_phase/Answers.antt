@@ -1,6 +1,6 @@
 use Rattle.std.proofs.Common.{◌∙◌, sym}
 use Rattle.std.proofs.lemmas.List.{with_items_is}
-use Rattle.hv_threads.proofs.Phases.{phase_done}
+use Rattle.hv_threads.proofs.TaskOutcomes.{phase_done}
 use Rattle.hv_threads.proofs.phase.run_phase.Goals as goal
 
 pub returns-clause-done : goal.returns-clause-done

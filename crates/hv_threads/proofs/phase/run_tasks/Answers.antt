@@ -1,5 +1,5 @@
 use denote.Param.{param}
-use Rattle.hv_shared.proofs.Crosses.{shared-sync}
+use Rattle.hv_shared.proofs.SendHeld.{shared-sync}
 use Rattle.hv_threads.proofs.phase.run_tasks.Goals as goal
 
 -- the closure has a reference to each of the three

@@ -1,5 +1,5 @@
 use Rattle.std.proofs.Common.{◌≡◌, ◌+◌, vec_len}
-use Rattle.hv_threads.proofs.Working.{IsWorking}
+use Rattle.hv_threads.proofs.WorkSteps.{IsWorking}
 use Rattle.hv_threads.proofs.phase.run_work.Given as goal
 
 abbrev pub invariant-loop-action : goal.invariant-loop-action

@@ -1,7 +1,7 @@
 use Rattle.std.proofs.Common.{ℕ, List, OnOk, subst, sym}
 use Rattle.std.specs.Io.KnownBytes.{Appends}
 use Rattle.hv_policy.specs.declared.reply.Reply.{Reply}
-use Rattle.hv_trace.proofs.Parts.{three}
+use Rattle.hv_trace.proofs.PartsInOrder.{three}
 use Rattle.hv_trace.specs.Trace.{output_text, reply_text}
 use Rattle.hv_trace.proofs.answer.put_reply.Goals as goal
 

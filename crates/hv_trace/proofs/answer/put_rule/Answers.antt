@@ -1,4 +1,4 @@
-use Rattle.hv_trace.proofs.Parts.{two}
+use Rattle.hv_trace.proofs.PartsInOrder.{two}
 use Rattle.hv_trace.specs.Trace.{rule_text}
 use Rattle.hv_trace.proofs.answer.put_rule.Goals as goal
 

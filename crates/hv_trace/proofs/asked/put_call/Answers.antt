@@ -2,7 +2,7 @@ use Rattle.std.proofs.Common.{subst, OnOk}
 use Rattle.std.specs.Io.KnownBytes.{Appends}
 use Rattle.hv_abi.specs.CallRow.{kind_of}
 use Rattle.hv_abi.specs.declared.input_value.InputValue.{InputValue}
-use Rattle.hv_trace.proofs.Parts.{two}
+use Rattle.hv_trace.proofs.PartsInOrder.{two}
 use Rattle.hv_trace.specs.Trace.{call_text, name_text}
 use Rattle.hv_trace.proofs.asked.put_call.Goals as goal
 

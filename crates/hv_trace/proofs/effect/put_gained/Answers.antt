@@ -1,6 +1,6 @@
 use Rattle.std.proofs.Common.{subst, codes, ◌++◌, ℕ, Option}
 use Rattle.std.specs.Io.KnownBytes.{Appends}
-use Rattle.hv_trace.proofs.Parts.{four}
+use Rattle.hv_trace.proofs.PartsInOrder.{four}
 use Rattle.hv_trace.specs.Effect.{gained_text, maybe_text}
 use Rattle.hv_trace.proofs.effect.put_gained.Goals as goal
 

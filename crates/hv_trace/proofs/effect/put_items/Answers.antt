@@ -1,6 +1,6 @@
 use Rattle.std.proofs.Common.{sym, ◌∙◌}
 use Rattle.hv_mail.specs.Words.{has_bit}
-use Rattle.hv_trace.proofs.Joined.{none_more, none_written, one_written}
+use Rattle.hv_trace.proofs.JoinedNumbers.{none_more, none_written, one_written}
 use Rattle.hv_trace.proofs.effect.put_items.Goals as goal
 
 pub loop-at-init : goal.loop-at-init

@@ -1,5 +1,5 @@
 use Rattle.hv_mail.specs.Words.{has_bit}
-use Rattle.hv_trace.proofs.Joined.{AreWritten}
+use Rattle.hv_trace.proofs.JoinedNumbers.{AreWritten}
 use Rattle.hv_trace.proofs.effect.put_items.Given as goal
 
 abbrev pub invariant-loop-at : goal.invariant-loop-at

@@ -1,7 +1,7 @@
 use Rattle.std.proofs.Common.{ℕ, List, ◌++◌, subst, codes, OnOk}
 use Rattle.std.specs.Io.KnownBytes.{Appends}
 use Rattle.hv_trace.specs.Effect.{array_text}
-use Rattle.hv_trace.proofs.Joined.{picked_raised}
+use Rattle.hv_trace.proofs.JoinedNumbers.{picked_raised}
 use Rattle.hv_trace.proofs.effect.put_raised.Goals as goal
 
 pub returns : goal.returns

@@ -2,7 +2,7 @@ use Rattle.std.proofs.Common.{ℕ, List, [], ◌∷◌, ◌++◌, ap, ◌∙◌,
 use Rattle.std.specs.Io.KnownBytes.{Appends}
 use Rattle.hv_mail.specs.Words.{has_bit}
 use Rattle.hv_trace.specs.Effect.{array_text, picked}
-use Rattle.hv_trace.proofs.Joined.{picked_shown}
+use Rattle.hv_trace.proofs.JoinedNumbers.{picked_shown}
 use Rattle.hv_trace.proofs.effect.put_shown.Goals as goal
 
 pub returns : goal.returns

@@ -1,4 +1,4 @@
-use Rattle.hv_trace.proofs.Parts.{three}
+use Rattle.hv_trace.proofs.PartsInOrder.{three}
 use Rattle.hv_trace.proofs.effect.put_synic.Goals as goal
 
 pub returns : goal.returns

@@ -1,4 +1,4 @@
-use Rattle.hv_trace.proofs.Parts.{four}
+use Rattle.hv_trace.proofs.PartsInOrder.{four}
 use Rattle.hv_trace.specs.Trace.{event_text}
 use Rattle.hv_trace.proofs.object.put_event.Goals as goal
 

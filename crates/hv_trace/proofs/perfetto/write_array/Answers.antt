@@ -1,4 +1,4 @@
-use Rattle.hv_trace.proofs.Charted.{at_ok}
+use Rattle.hv_trace.proofs.WrittenParts.{at_ok}
 use Rattle.hv_trace.proofs.perfetto.write_array.Goals as goal
 
 pub returns-in-Done-clause-charted : goal.returns-in-Done-clause-charted

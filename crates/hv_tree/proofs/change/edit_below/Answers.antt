@@ -4,7 +4,7 @@ use Rattle.hv_tree.specs.Lines.{lines}
 use Rattle.hv_tree.specs.Edited.{IsEditedFrom}
 use Rattle.hv_tree.specs.Put.{put_far}
 use Rattle.hv_tree.specs.Way.{way_to, IsReached}
-use Rattle.hv_tree.proofs.Changes.{lines-edited}
+use Rattle.hv_tree.proofs.ChangedNode.{lines-edited}
 use Rattle.hv_tree.proofs.change.edit_below.Goals as goal
 
 pub returns-clause-edited : goal.returns-clause-edited

@@ -8,7 +8,7 @@ use Rattle.hv_tree.specs.Nest.{AreDistinct, IsGrownBy}
 use Rattle.hv_tree.specs.Put.{content_of, put_far}
 use Rattle.hv_tree.specs.Way.{id_of, children_of, way_to, IsReached}
 use Rattle.hv_tree.proofs.Steps.{rising-non_decreasing}
-use Rattle.hv_tree.proofs.Changes.{lines-kept, lines-grown, kids-changed, same-items}
+use Rattle.hv_tree.proofs.ChangedNode.{lines-kept, lines-grown, kids-changed, same-items}
 use Rattle.std.proofs.lemmas.List.Sorted.{IsNonDecreasingBy-insert}
 use Rattle.hv_tree.proofs.change.graft.Goals as goal
 

@@ -7,12 +7,12 @@ use Rattle.hv_tree.specs.Nest.{has_row, AreDistinct, IsWithout}
 use Rattle.hv_tree.specs.Put.{put_far}
 use Rattle.hv_tree.specs.Way.{id_of, children_of, way_to, IsReached, IsShorn, HasParent}
 use Rattle.hv_tree.proofs.Steps.{rising-non_decreasing}
-use Rattle.hv_tree.proofs.Changes.{lines-shorn, kids-changed, kids-refused, child-named}
+use Rattle.hv_tree.proofs.ChangedNode.{lines-shorn, kids-changed, kids-refused, child-named}
 use Rattle.hv_tree.proofs.Lists.{rising-remove}
-use Rattle.hv_tree.proofs.Nested.{nest}
-use Rattle.hv_tree.proofs.Seen.{kid_there}
-use Rattle.hv_tree.proofs.Toward.{if_some, if_none}
-use Rattle.hv_tree.proofs.Ways.{same_far}
+use Rattle.hv_tree.proofs.NestedRows.{nest}
+use Rattle.hv_tree.proofs.TreeAsMap.{kid_there}
+use Rattle.hv_tree.proofs.IndexedParents.{if_some, if_none}
+use Rattle.hv_tree.proofs.InsertedAtWay.{same_far}
 use Rattle.hv_tree.proofs.change.prune.Goals as goal
 
 pub unreachable-requires : goal.unreachable-requires

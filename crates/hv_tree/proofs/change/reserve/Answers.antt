@@ -1,7 +1,7 @@
 use Rattle.hv_tree.specs.declared.node.Node.{out-Node, roll-Node}
 use Rattle.hv_tree.specs.Index.{parents}
 use Rattle.hv_tree.specs.Way.{way_to, IsReached}
-use Rattle.hv_tree.proofs.Changes.{lines-kept, same-items}
+use Rattle.hv_tree.proofs.ChangedNode.{lines-kept, same-items}
 use Rattle.hv_tree.proofs.change.reserve.Goals as goal
 
 pub returns-then-is_err-clause-rows : goal.returns-then-is_err-clause-rows

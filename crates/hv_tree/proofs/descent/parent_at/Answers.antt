@@ -1,7 +1,7 @@
 use Rattle.std.proofs.Common.{ap, sym, ◌∙◌}
 use Rattle.hv_tree.specs.Index.{parents}
 use Rattle.hv_tree.specs.Way.{line}
-use Rattle.hv_tree.proofs.Climb.{line-zero}
+use Rattle.hv_tree.proofs.ParentChain.{line-zero}
 use Rattle.hv_tree.proofs.descent.parent_at.Goals as goal
 
 pub returns-then-steps-eq0 : goal.returns-then-steps-eq0

@@ -1,7 +1,7 @@
 use Rattle.std.proofs.Common.{◌≡◌, ◌+◌, ◌-◌, sym, ap, ◌∙◌, arith, unwrap_or}
 use Rattle.hv_tree.specs.Index.{parents}
 use Rattle.hv_tree.specs.Way.{above}
-use Rattle.hv_tree.proofs.Climb.{above-zero, above-on}
+use Rattle.hv_tree.proofs.ParentChain.{above-zero, above-on}
 use Rattle.hv_tree.proofs.index.above.Goals as goal
 
 pub loop-step-init : goal.loop-step-init

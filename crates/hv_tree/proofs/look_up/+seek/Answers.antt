@@ -2,7 +2,7 @@ use Rattle.std.proofs.Common.{◌≡◌, true, sym, arith}
 use Rattle.hv_tree.specs.Index.{parents}
 use Rattle.hv_tree.specs.Lines.{lines}
 use Rattle.hv_tree.specs.Nest.{has_row}
-use Rattle.hv_tree.proofs.Sought.{root-reached, lost, has-parent, falls, child-found, child-kept}
+use Rattle.hv_tree.proofs.WayFound.{root-reached, lost, has-parent, falls, child-found, child-kept}
 use Rattle.hv_tree.proofs.look_up.+seek.Goals as goal
 
 pub returns-then-id-root-clause-found : goal.returns-then-id-root-clause-found

@@ -4,11 +4,11 @@ use Rattle.hv_tree.specs.Index.{parents}
 use Rattle.hv_tree.specs.Lines.{lines}
 use Rattle.hv_tree.specs.Nest.{has_row}
 use Rattle.hv_tree.specs.declared.index.TheConstants.{MOST}
-use Rattle.hv_tree.proofs.Climb.{depth-top, depth-on}
-use Rattle.hv_tree.proofs.Gone.{has-nest}
+use Rattle.hv_tree.proofs.ParentChain.{depth-top, depth-on}
+use Rattle.hv_tree.proofs.RemovedRow.{has-nest}
 use Rattle.hv_tree.proofs.Levels.{top-lines}
-use Rattle.hv_tree.proofs.Nested.{nest}
-use Rattle.hv_tree.proofs.Sought.{root-top, low, lost, has-named, has-parent, falls}
+use Rattle.hv_tree.proofs.NestedRows.{nest}
+use Rattle.hv_tree.proofs.WayFound.{root-top, low, lost, has-named, has-parent, falls}
 use Rattle.hv_tree.proofs.look_up.depth_in.Goals as goal
 
 pub loop-step-init : goal.loop-step-init

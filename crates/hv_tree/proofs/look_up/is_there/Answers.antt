@@ -3,8 +3,8 @@ use Rattle.hv_tree.specs.Index.{parents}
 use Rattle.hv_tree.specs.Lines.{lines}
 use Rattle.hv_tree.specs.Nest.{top}
 use Rattle.hv_tree.proofs.Levels.{top-lines}
-use Rattle.hv_tree.proofs.Nested.{nest}
-use Rattle.hv_tree.proofs.Toward.{has-indexed}
+use Rattle.hv_tree.proofs.NestedRows.{nest}
+use Rattle.hv_tree.proofs.IndexedParents.{has-indexed}
 use Rattle.hv_tree.proofs.look_up.is_there.Goals as goal
 
 pub returns-else-id-root : goal.returns-else-id-root

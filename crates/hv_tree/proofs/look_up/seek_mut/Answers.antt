@@ -7,8 +7,8 @@ use Rattle.hv_tree.specs.Lines.{lines}
 use Rattle.hv_tree.specs.Nest.{has_row}
 use Rattle.hv_tree.specs.Put.{reach, put_far}
 use Rattle.hv_tree.specs.Way.{depth, line, places, IsReached}
-use Rattle.hv_tree.proofs.Sought.{laid-rising, few-steps, reached}
-use Rattle.hv_tree.proofs.Found.{some_copied_mut, none_copied_mut}
+use Rattle.hv_tree.proofs.WayFound.{laid-rising, few-steps, reached}
+use Rattle.hv_tree.proofs.FoundNode.{some_copied_mut, none_copied_mut}
 use Rattle.hv_tree.proofs.look_up.seek_mut.Goals as goal
 
 pub returns-in_err-steps : goal.returns-in_err-steps

@@ -2,7 +2,7 @@ use Rattle.std.proofs.Common.{◌≡◌, ◌<◌, ◌-◌, ◌+◌, List, ◌++�
 use Rattle.hv_history.specs.History.{entry_by}
 use Rattle.hv_history.specs.declared.entry.Entry.{Entry}
 use Rattle.hv_text.specs.Audit.{entry_text}
-use Rattle.hv_check.proofs.Last.{last_is}
+use Rattle.hv_check.proofs.LastEntry.{last_is}
 use Rattle.hv_check.proofs.own_line.OwnLine.put_last.Goals as goal
 
 pub returns : goal.returns

@@ -1,4 +1,4 @@
-use Rattle.hv_machine.proofs.Accessing.{access_refused, access_served, access_told, refused_told}
+use Rattle.hv_machine.proofs.AccessSteps.{access_refused, access_served, access_told, refused_told}
 use Rattle.hv_machine.proofs.machine.Machine.access.Goals as goal
 
 pub returns-in-Ok-clause-step : goal.returns-in-Ok-clause-step

@@ -1,5 +1,5 @@
-use Rattle.hv_machine.proofs.Booted.{booted_flat, booted_lasting}
-use Rattle.hv_machine.proofs.Sound.{sound}
+use Rattle.hv_machine.proofs.BootedMachine.{booted_flat, booted_lasting}
+use Rattle.hv_machine.proofs.SoundMachine.{sound}
 use Rattle.hv_machine.proofs.machine.Machine.boot.Goals as goal
 
 pub returns-clause-lasting : goal.returns-clause-lasting

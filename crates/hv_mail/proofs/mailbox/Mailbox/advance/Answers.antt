@@ -1,9 +1,9 @@
 use Rattle.std.proofs.Common.{◌∙◌, refl, sym, ap, arith}
 use Rattle.std.proofs.lemmas.Nat.Bits.{shr_and_one}
-use Rattle.hv_mail.proofs.Opened.{absent_at, still_roomy, still_whole}
+use Rattle.hv_mail.proofs.EmptyMailbox.{absent_at, still_roomy, still_whole}
 use Rattle.hv_mail.proofs.Queues.{write_queue, read_queue, same_absent}
-use Rattle.hv_mail.proofs.Nothing.{quiet_next}
-use Rattle.hv_mail.proofs.Quiet.{quiet_kept}
+use Rattle.hv_mail.proofs.EmptySint.{quiet_next}
+use Rattle.hv_mail.proofs.EmptySints.{quiet_kept}
 use Rattle.hv_mail.specs.Mail.{MailboxState, with_next, has_next, mail_or_none}
 use Rattle.hv_mail.specs.Queue.{mail_from}
 use Rattle.hv_mail.proofs.mailbox.Mailbox.advance.Goals as goal

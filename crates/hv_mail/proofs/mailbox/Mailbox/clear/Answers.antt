@@ -1,7 +1,7 @@
 use Rattle.std.proofs.Common.{◌≡◌, true, false, ◌∙◌, set, refl, sym, ap, arith}
-use Rattle.hv_mail.proofs.Opened.{absent_at, still_roomy, still_whole}
+use Rattle.hv_mail.proofs.EmptyMailbox.{absent_at, still_roomy, still_whole}
 use Rattle.hv_mail.proofs.Queues.{write_queue, read_queue, same_absent}
-use Rattle.hv_mail.proofs.Quiet.{none_left, quiet_kept, quiet_cleared}
+use Rattle.hv_mail.proofs.EmptySints.{none_left, quiet_kept, quiet_cleared}
 use Rattle.hv_mail.specs.Mail.{MailboxState, SintMail, at, with_at, cleared}
 use Rattle.hv_mail.specs.Queue.{is_roomy, mail_from}
 use Rattle.hv_mail.specs.Slot.{is_some_of}

@@ -1,6 +1,6 @@
 use Rattle.std.proofs.Common.{◌∙◌, sym, ap, arith, le-ltb}
 use Rattle.std.proofs.lemmas.Nat.Bits.{shr_and_one}
-use Rattle.hv_mail.proofs.Opened.{absent_at}
+use Rattle.hv_mail.proofs.EmptyMailbox.{absent_at}
 use Rattle.hv_mail.proofs.Queues.{read_queue}
 use Rattle.hv_mail.specs.Mail.{has_next, mail_or_none}
 use Rattle.hv_mail.proofs.mailbox.Mailbox.is_due.Goals as goal

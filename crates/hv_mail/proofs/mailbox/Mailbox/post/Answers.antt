@@ -1,7 +1,7 @@
 use Rattle.std.proofs.Common.{◌∙◌, sym, ap, arith}
-use Rattle.hv_mail.proofs.Opened.{whole, still_roomy, still_whole}
+use Rattle.hv_mail.proofs.EmptyMailbox.{whole, still_roomy, still_whole}
 use Rattle.hv_mail.proofs.Queues.{write_queue, read_queue}
-use Rattle.hv_mail.proofs.Quiet.{quiet_set}
+use Rattle.hv_mail.proofs.EmptySints.{quiet_set}
 use Rattle.hv_mail.specs.Mail.{MailboxState, posted, with_last, has_next}
 use Rattle.hv_mail.specs.Queue.{mail_from}
 use Rattle.hv_mail.proofs.mailbox.Mailbox.post.Goals as goal

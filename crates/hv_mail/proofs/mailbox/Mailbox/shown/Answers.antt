@@ -1,5 +1,5 @@
 use Rattle.std.proofs.Common.{◌∙◌, sym, ap, arith, option_map}
-use Rattle.hv_mail.proofs.Opened.{absent_at}
+use Rattle.hv_mail.proofs.EmptyMailbox.{absent_at}
 use Rattle.hv_mail.proofs.Queues.{read_queue}
 use Rattle.hv_mail.specs.Mail.{SintMail, mail_or_none}
 use Rattle.hv_mail.specs.declared.message.Message.{Message}

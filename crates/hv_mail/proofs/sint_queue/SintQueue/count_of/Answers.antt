@@ -1,5 +1,5 @@
 use Rattle.std.proofs.Common.{rules, ◌≡◌, ap, sym, ◌∙◌, count_by}
-use Rattle.hv_mail.proofs.Standing.{count_standing}
+use Rattle.hv_mail.proofs.QueuedMessages.{count_standing}
 use Rattle.hv_mail.specs.Mail.{count_at, is_of}
 use Rattle.hv_mail.specs.Queue.{QueueState}
 use Rattle.hv_mail.proofs.sint_queue.SintQueue.count_of.Goals as goal

@@ -1,7 +1,7 @@
 use Rattle.std.proofs.Common.{◌≡◌, codes, false, rules, subst, sym, tests, true, Some}
 use Rattle.hv_script.specs.Words.{begins_with}
 use Rattle.hv_serve.specs.Bench.{HasTaken}
-use Rattle.hv_serve.proofs.Benches.{boots_twice, is_phase, is_processor}
+use Rattle.hv_serve.proofs.BenchSteps.{boots_twice, is_phase, is_processor}
 use Rattle.hv_serve.proofs.bench.Bench.later_line.Goals as goal
 
 pub returns-then-begins_with : goal.returns-then-begins_with

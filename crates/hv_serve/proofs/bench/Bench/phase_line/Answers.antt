@@ -1,6 +1,6 @@
 use Rattle.std.proofs.Common.{◌∙◌, eq-eqb, length, refl, sym}
 use Rattle.hv_serve.specs.declared.bench.Bench.{Bench}
-use Rattle.hv_serve.proofs.Benches.{phased}
+use Rattle.hv_serve.proofs.BenchSteps.{phased}
 use Rattle.hv_serve.proofs.bench.Bench.phase_line.Goals as goal
 
 pub returns : goal.returns

@@ -2,7 +2,7 @@ use Rattle.std.proofs.Common.{◌∙◌, ◌<◌, ℕ, ap, arith, refl, sym, Err
 use Rattle.std.proofs.lemmas.Result.{err_from_is_err_and}
 use Rattle.hv_defs.specs.declared.sizes.TheConstants.{REPS_END}
 use Rattle.hv_script.specs.Line.{processor_of}
-use Rattle.hv_serve.proofs.Benches.{bad_action, bad_processor, no_room, performed, still}
+use Rattle.hv_serve.proofs.BenchSteps.{bad_action, bad_processor, no_room, performed, still}
 use Rattle.hv_serve.proofs.bench.Bench.processor_line.Goals as goal
 
 pub returns-in_err-by : goal.returns-in_err-by

@@ -7,7 +7,7 @@ use Rattle.hv_shared.specs.PassValue.{PassValue}
 use Rattle.hv_shared.specs.Receipts.{list_of}
 use Rattle.hv_shared.specs.declared.receipts.Receipt.{Receipt}
 use Rattle.hv_shared.specs.declared.receipts.Receipts.{Receipts}
-use Rattle.hv_shared.proofs.Packed.{some_more}
+use Rattle.hv_shared.proofs.PackedReceipts.{some_more}
 use Rattle.hv_shared.proofs.held.Held.hold.Goals as goal
 
 pub invariant_of-pass : goal.invariant_of-pass

@@ -6,10 +6,10 @@ use Rattle.hv_policy.specs.Parts.{reply_of}
 use Rattle.hv_shared.specs.PassValue.{PassValue}
 use Rattle.hv_shared.specs.Receipts.{list_of, numbered, room_in}
 use Rattle.hv_shared.specs.declared.receipts.Receipts.{Receipts}
-use Rattle.hv_shared.proofs.Holding.{gained, held, tail_is}
+use Rattle.hv_shared.proofs.HeldElements.{gained, held, tail_is}
 use Rattle.hv_shared.proofs.Copies.{first_copy, some_copies}
-use Rattle.hv_shared.proofs.Packed.{some_more}
-use Rattle.hv_shared.proofs.Numbers.{count, owned}
+use Rattle.hv_shared.proofs.PackedReceipts.{some_more}
+use Rattle.hv_shared.proofs.EntryNumbers.{count, owned}
 use Rattle.hv_shared.proofs.held.Held.hold_run.Goals as goal
 
 pub index_mut-first-requires : goal.index_mut-first-requires

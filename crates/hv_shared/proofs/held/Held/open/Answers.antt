@@ -1,6 +1,6 @@
 use Rattle.std.proofs.Common.{◌<◌, arith, length}
 use Rattle.std.proofs.lemmas.Grind.{common_steps}
-use Rattle.hv_shared.proofs.Opened.{opened_more}
+use Rattle.hv_shared.proofs.NewPass.{opened_more}
 use Rattle.hv_shared.proofs.held.Held.open.Goals as goal
 
 pub loop-i-preserved : goal.loop-i-preserved

@@ -1,5 +1,5 @@
 use Rattle.hv_shared.specs.Receipts.{list_of}
-use Rattle.hv_shared.proofs.Dues.{due_later, due_past}
+use Rattle.hv_shared.proofs.NextDue.{due_later, due_past}
 use Rattle.hv_shared.proofs.held.settlement.due_after.Goals as goal
 
 pub returns-then-number-next : goal.returns-then-number-next

@@ -1,5 +1,5 @@
 use Rattle.std.proofs.Common.{rules, ◌≡◌, ◌∙◌, sym}
-use Rattle.hv_shared.proofs.Merged.{made}
+use Rattle.hv_shared.proofs.MergedHistory.{made}
 use Rattle.hv_shared.proofs.held.settlement.fault_of.Goals as goal
 
 pub returns-clause-none : goal.returns-clause-none

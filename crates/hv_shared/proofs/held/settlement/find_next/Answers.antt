@@ -2,8 +2,8 @@ use Rattle.std.proofs.Common.{◌≡◌, ◌+◌, ◌<◌, arith, sym, ◌∙◌
 use Rattle.std.specs.BinaryHeap.{heap_items}
 use Rattle.hv_history.specs.History.{entries}
 use Rattle.hv_shared.specs.declared.held.settlement.TheConstants.{NEVER}
-use Rattle.hv_shared.proofs.Looking.{comes_next, contested, differs, due_behind, empty, goes_on, missing, none_before}
-use Rattle.hv_shared.proofs.Packed.{there_is}
+use Rattle.hv_shared.proofs.HeapFirst.{comes_next, contested, differs, due_behind, empty, goes_on, missing, none_before}
+use Rattle.hv_shared.proofs.PackedReceipts.{there_is}
 use Rattle.hv_shared.proofs.held.settlement.find_next.Goals as goal
 
 pub returns-in_default-clause-fault : goal.returns-in_default-clause-fault

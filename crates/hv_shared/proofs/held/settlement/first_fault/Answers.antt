@@ -3,7 +3,7 @@ use Rattle.std.proofs.lemmas.List.Sorted.{All-permutation, IsPermutation-map, Is
 use Rattle.std.specs.BinaryHeap.{heap_items}
 use Rattle.hv_history.specs.History.{entries}
 use Rattle.hv_shared.specs.Due.{IsDueAfter, left_of}
-use Rattle.hv_shared.proofs.Moved.{settles_permuted}
+use Rattle.hv_shared.proofs.ReorderedReceipts.{settles_permuted}
 use Rattle.hv_shared.proofs.held.settlement.first_fault.Goals as goal
 
 pub loop-at-init : goal.loop-at-init

@@ -1,7 +1,7 @@
 use Rattle.std.proofs.Common.{arith, sym, ◌∙◌}
 use Rattle.std.proofs.lemmas.Option.{slice_get_read}
 use Rattle.hv_history.specs.History.{entries}
-use Rattle.hv_shared.proofs.Packed.{count, place}
+use Rattle.hv_shared.proofs.PackedReceipts.{count, place}
 use Rattle.hv_shared.proofs.receipts.Receipts.get.Goals as goal
 
 pub index-requires : goal.index-requires

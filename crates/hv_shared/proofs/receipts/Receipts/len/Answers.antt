@@ -1,6 +1,6 @@
 use Rattle.std.proofs.Common.{sym, ◌∙◌}
 use Rattle.hv_history.specs.History.{entries}
-use Rattle.hv_shared.proofs.Packed.{count}
+use Rattle.hv_shared.proofs.PackedReceipts.{count}
 use Rattle.hv_shared.proofs.receipts.Receipts.len.Goals as goal
 
 pub returns : goal.returns

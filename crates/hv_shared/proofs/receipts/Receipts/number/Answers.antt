@@ -1,7 +1,7 @@
 use Rattle.std.proofs.Common.{Some, ap, arith, sym, ◌∙◌}
 use Rattle.std.proofs.lemmas.Option.{slice_get_read}
 use Rattle.hv_history.specs.History.{entries}
-use Rattle.hv_shared.proofs.Packed.{count, numbers}
+use Rattle.hv_shared.proofs.PackedReceipts.{count, numbers}
 use Rattle.hv_shared.proofs.receipts.Receipts.number.Goals as goal
 
 pub index-requires : goal.index-requires

@@ -1,6 +1,6 @@
 use Rattle.std.proofs.Common.{sym, ◌∙◌}
 use Rattle.hv_history.specs.History.{entries}
-use Rattle.hv_shared.proofs.Packed.{more}
+use Rattle.hv_shared.proofs.PackedReceipts.{more}
 use Rattle.hv_shared.proofs.receipts.Receipts.push.Goals as goal
 
 pub returns-clause-pushed : goal.returns-clause-pushed

@@ -1,6 +1,6 @@
 use Rattle.std.proofs.Common.{arith, ◌≡◌, ◌-◌, ◌+◌, drop, length, sym, ◌∙◌, length-drop}
 use Rattle.hv_history.specs.History.{entries}
-use Rattle.hv_shared.proofs.Packed.{all_more}
+use Rattle.hv_shared.proofs.PackedReceipts.{all_more}
 use Rattle.hv_shared.proofs.receipts.Receipts.push_all.Goals as goal
 
 pub returns : goal.returns

@@ -3,7 +3,7 @@ use Rattle.std.proofs.lemmas.Bool.{cases_eq, false≢true}
 use Rattle.std.proofs.lemmas.Option.{slice_get_within}
 use Rattle.hv_history.specs.History.{entries}
 use Rattle.hv_shared.specs.Receipts.{list_of}
-use Rattle.hv_shared.proofs.Packed.{are_of, count, next_at, no_number}
+use Rattle.hv_shared.proofs.PackedReceipts.{are_of, count, next_at, no_number}
 use Rattle.hv_shared.proofs.receipts.Receipts.run_of.Goals as goal
 
 pub returns-then-len-at-clause-none : goal.returns-then-len-at-clause-none

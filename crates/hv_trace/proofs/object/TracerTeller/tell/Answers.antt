@@ -1,5 +1,5 @@
 use Rattle.std.proofs.Common.{subst, sym}
-use Rattle.hv_trace.proofs.Whole.{object_put}
+use Rattle.hv_trace.proofs.WrittenObject.{object_put}
 use Rattle.hv_trace.proofs.object.TracerTeller.tell.Goals as goal
 use Rattle.hv_words.specs.Words.{IsPlain}
 

@@ -1,4 +1,4 @@
-use Rattle.hv_trace.proofs.Parts.{four}
+use Rattle.hv_trace.proofs.PartsInOrder.{four}
 use Rattle.hv_trace.specs.Perfetto.{end_text}
 use Rattle.hv_trace.proofs.perfetto.note.put_end.Goals as goal
 

@@ -1,7 +1,7 @@
 use Rattle.std.proofs.Common.{◌≡◌, Some, [], refl, ap, ◌∙◌, arith}
 use Rattle.hv_tree.specs.Index.{parents}
 use Rattle.hv_tree.specs.Way.{line}
-use Rattle.hv_tree.proofs.Climb.{line-zero}
+use Rattle.hv_tree.proofs.ParentChain.{line-zero}
 use Rattle.hv_tree.proofs.descent.StayToward.toward.Goals as goal
 
 pub returns : goal.returns

@@ -5,8 +5,8 @@ use Rattle.hv_tree.specs.declared.node.Node.{Node}
 use Rattle.hv_tree.specs.Index.{parents}
 use Rattle.hv_tree.specs.Put.{put_far, put_child, reach, child_of}
 use Rattle.hv_tree.specs.Way.{line, places, place_by, children_of}
-use Rattle.hv_tree.proofs.Climb.{line-zero, line-parts}
-use Rattle.hv_tree.proofs.Ways.{same_far, same_child, far_two}
+use Rattle.hv_tree.proofs.ParentChain.{line-zero, line-parts}
+use Rattle.hv_tree.proofs.InsertedAtWay.{same_far, same_child, far_two}
 use Rattle.hv_tree.proofs.Steps.{rising-child, places_split, split_some, split_lost, split_stuck}
 use Rattle.hv_tree.proofs.descent.TwiceToward.toward.Goals as goal
 

@@ -10,9 +10,9 @@ use Rattle.hv_tree.specs.Put.{node_of, put_node}
 use Rattle.hv_tree.specs.Way.{children_of}
 use Rattle.hv_tree.proofs.Lists.{take_whole}
 use Rattle.hv_tree.proofs.Levels.{lines-node, lines-put, node-lines}
-use Rattle.hv_tree.proofs.Lifted.{map-set}
-use Rattle.hv_tree.proofs.Changes.{at-box, len-set}
-use Rattle.hv_tree.proofs.Edits.{edited_kids, edited-below, edited_more, drop_whole}
+use Rattle.hv_tree.proofs.ChangedBranch.{map-set}
+use Rattle.hv_tree.proofs.ChangedNode.{at-box, len-set}
+use Rattle.hv_tree.proofs.EditedRows.{edited_kids, edited-below, edited_more, drop_whole}
 use Rattle.hv_tree.proofs.node.Node.+edit_all.Goals as goal
 
 pub loop-i-init : goal.loop-i-init

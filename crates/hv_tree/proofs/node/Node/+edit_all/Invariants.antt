@@ -3,7 +3,7 @@ use Rattle.hv_tree.specs.declared.node.Node.{out-Node}
 use Rattle.hv_tree.specs.Lines.{boxed_lines}
 use Rattle.hv_tree.specs.Put.{content_of}
 use Rattle.hv_tree.specs.Way.{children_of}
-use Rattle.hv_tree.proofs.Edits.{edited_kids}
+use Rattle.hv_tree.proofs.EditedRows.{edited_kids}
 use Rattle.hv_tree.proofs.node.Node.+edit_all.Given as goal
 
 abbrev pub invariant-loop-i : goal.invariant-loop-i

@@ -6,7 +6,7 @@ use Rattle.hv_tree.specs.Lines.{lines, node_lines, boxed_lines}
 use Rattle.hv_tree.specs.Put.{node_of}
 use Rattle.hv_tree.proofs.Lists.{take_whole}
 use Rattle.hv_tree.proofs.Levels.{lines-node, node-lines}
-use Rattle.hv_tree.proofs.Changes.{at-box}
+use Rattle.hv_tree.proofs.ChangedNode.{at-box}
 use Rattle.hv_tree.proofs.Ids.{ids_of, ids-shift, ids-more}
 use Rattle.hv_tree.proofs.node.Node.+push_ids.Goals as goal
 

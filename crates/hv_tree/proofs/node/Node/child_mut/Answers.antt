@@ -4,7 +4,7 @@ use Rattle.std.proofs.Math.Dec.{ltb}
 use Rattle.std.proofs.lemmas.Option.{slice_get-get_or}
 use Rattle.hv_tree.specs.declared.node.Node.{out-Node, roll-out-Node}
 use Rattle.hv_tree.specs.Put.{child_of}
-use Rattle.hv_tree.proofs.Ways.{put_there}
+use Rattle.hv_tree.proofs.InsertedAtWay.{put_there}
 use Rattle.hv_tree.proofs.Steps.{none-past}
 use Rattle.hv_tree.proofs.node.Node.child_mut.Goals as goal
 

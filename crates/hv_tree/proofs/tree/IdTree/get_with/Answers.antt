@@ -1,10 +1,10 @@
 use Rattle.std.proofs.Common.{refl, sym, ap, ◌∙◌, arith, option_copied}
 use Rattle.hv_tree.specs.Index.{parents}
 use Rattle.hv_tree.specs.Lines.{lines}
-use Rattle.hv_tree.proofs.Kept.{laid}
+use Rattle.hv_tree.proofs.TreeInvariant.{laid}
 use Rattle.hv_tree.proofs.Relatives.{content-none, content-reached, count-reached, few-reached, named-there, no-loop, not-there, parent-kept, root-there}
-use Rattle.hv_tree.proofs.Seen.{IsShown}
-use Rattle.hv_tree.proofs.Sought.{child-found, child-kept}
+use Rattle.hv_tree.proofs.TreeAsMap.{IsShown}
+use Rattle.hv_tree.proofs.WayFound.{child-found, child-kept}
 use Rattle.hv_tree.proofs.tree.IdTree.get_with.Goals as goal
 use Rattle.hv_tree.proofs.tree.IdTree.get_with.Goals.{then-other-id, else-other-id+in-Some+in-Some-child, else-other-id+in-Some-2, else-other-id+in-None, else-other-id+in-None-2}
 

@@ -4,7 +4,7 @@ use Rattle.std.proofs.lemmas.Nat.Bits.{shr_and_one}
 use Rattle.hv_defs.specs.Registers.{takes_messages}
 use Rattle.hv_mail.specs.Mail.{all_next, at, has_next}
 use Rattle.hv_vp.specs.Vp.{VpState, shown_each}
-use Rattle.hv_vp.proofs.Shown.{first_raised, next_raised, all_raised}
+use Rattle.hv_vp.proofs.ShownMessages.{first_raised, next_raised, all_raised}
 use Rattle.hv_vp.proofs.vp.Vp.end_message.Goals.{then-shown-sint-eq1, else-shown-sint-eq1}
 use Rattle.hv_vp.proofs.vp.Vp.end_message.Goals as goal
 

@@ -1,5 +1,5 @@
 use Rattle.std.proofs.Common.{◌∙◌, sym}
-use Rattle.hv_vp.proofs.Shown.{unchanged, written-refused}
+use Rattle.hv_vp.proofs.ShownMessages.{unchanged, written-refused}
 use Rattle.hv_vp.proofs.vp.Vp.write_reg.Goals as goal
 
 pub returns-in_err-write-clause-state : goal.returns-in_err-write-clause-state

@@ -1,5 +1,5 @@
 use Rattle.std.proofs.Common.{nat_lt, ◌∙◌, ap}
-use Rattle.hv_vp.proofs.Together.{kept_in_all}
+use Rattle.hv_vp.proofs.AllSlots.{kept_in_all}
 use Rattle.hv_vp.proofs.vps.Vps.keep_fewer.Goals as goal
 
 pub returns : goal.returns

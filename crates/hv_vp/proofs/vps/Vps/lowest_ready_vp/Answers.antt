@@ -1,5 +1,5 @@
 use Rattle.std.proofs.Common.{◌∙◌}
-use Rattle.hv_vp.proofs.Together.{lowest_in_all}
+use Rattle.hv_vp.proofs.AllSlots.{lowest_in_all}
 use Rattle.hv_vp.specs.Vps.{is_ready}
 use Rattle.hv_vp.proofs.vps.Vps.lowest_ready_vp.Goals as goal
 

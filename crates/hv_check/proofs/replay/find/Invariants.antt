@@ -1,6 +1,0 @@
-use Rattle.std.proofs.Common.{◌≡◌, [], take}
-use Rattle.hv_check.specs.Replay.{todo_of}
-use Rattle.hv_check.proofs.replay.find.Given as goal
-
-abbrev pub invariant-loop-at : goal.invariant-loop-at
-invariant-loop-at l = todo_of l.by (take l.at l.turns) ≡ []

@@ -1,5 +1,0 @@
-pub mod Agreed
-pub mod Integrity
-pub mod Misses
-pub mod Same
-pub mod Unrelated

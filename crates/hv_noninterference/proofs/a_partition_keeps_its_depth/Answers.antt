@@ -1,5 +1,0 @@
-use Rattle.hv_noninterference.proofs.Depths.{depth_kept}
-use Rattle.hv_noninterference.proofs.a_partition_keeps_its_depth.Goals as goal
-
-pub returns : goal.returns
-returns g c = depth_kept

@@ -1,2 +1,0 @@
-pub mod Narrowed
-pub mod Outcomes

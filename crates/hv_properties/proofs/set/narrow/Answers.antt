@@ -1,5 +1,0 @@
-use Rattle.hv_properties.proofs.Narrowed.{narrowed_tied}
-use Rattle.hv_properties.proofs.set.narrow.Goals as goal
-
-pub returns : goal.returns
-returns g c f flat = narrowed_tied c.args.tree.now f flat c.requires c.args.id c.args.value c.update_subtree.new.self c.update_subtree.ensures.edited c.update_subtree.ensures.others

@@ -1,0 +1,12 @@
+pub mod Agreed
+pub mod Integrity
+pub mod Misses
+pub mod Same
+pub mod Unrelated
+pub mod Alike
+pub mod Looks
+pub mod Tenant
+pub mod Turns
+pub mod Within
+pub mod Operation
+pub mod Justified

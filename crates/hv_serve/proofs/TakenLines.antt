@@ -1,0 +1,105 @@
+-- How a line is taken, from its bytes to its answer.
+use Rattle.std.proofs.Common.{◌≡◌, ◌≢◌, ◌==◌, ◌≤◌, ℕ, Bool, false, List, [], length, if◌then◌else◌, refl, sym, ap, ◌∙◌, subst, arith, Option, Some, None, Result, Ok, Err, MatchResult}
+use Rattle.std.proofs.Common.{Global}
+use Rattle.std.specs.Io.KnownBytes.{Appends}
+use Rattle.hv_script.specs.Cursor.{line_of, words_read}
+use Rattle.hv_script.specs.Line.{◌>>=◌}
+use Rattle.hv_script.specs.Script.{first_line, later_line, read_words}
+use Rattle.hv_script.specs.declared.fault.FaultKind.{FaultKind}
+use Rattle.hv_script.specs.declared.fault.FaultKind.TheVariants.{Memory}
+use Rattle.hv_script.specs.declared.script.TheConstants.{MOST_BYTES}
+use Rattle.hv_history.specs.Kept.{Kept}
+use Rattle.hv_words.specs.Words.{IsPlain}
+use Rattle.hv_serve.proofs.LineOutcomes.{same_kept, told_becomes}
+use Rattle.hv_serve.proofs.BenchSteps.{took_asked}
+use Rattle.hv_serve.proofs.Lines.{IsOne}
+use Rattle.hv_serve.proofs.LineWords.{by_first, cut_says, line_shorter, line_whole, long_says}
+use Rattle.hv_serve.specs.Bench.{AsksFor, HasBecome, HasTaken, IsBench, IsToldAs, StandsFor, kept_in, reads, words_say}
+use Rattle.hv_serve.specs.Input.{AreKept, HasLine}
+use Rattle.hv_serve.specs.Meant.{Meant, meant, request_line, request_of}
+use Rattle.hv_serve.specs.Session.{Served, answer_of, history_of, kept_of, read_of}
+use Rattle.hv_serve.specs.Turned.{HasTurned, is_silent}
+use Rattle.hv_serve.specs.declared.bench.Bench.{Bench}
+use Rattle.hv_serve.specs.declared.form.Form.{Form}
+use Rattle.hv_serve.specs.declared.input.LineEnd.{LineEnd}
+use Rattle.hv_serve.specs.declared.outcome.Outcome.{Outcome}
+use Rattle.hv_serve.specs.declared.request.Request.{Request}
+
+-- a line that is cut says what its words say
+pub cut_faulty : (form : Form) (bench : Option Bench) (before : Option Served) (text : List ℕ) (kind : FaultKind) → StandsFor bench before → length text ≤ MOST_BYTES
+    → (kind ≢ Memory → words_read (line_of text) ≡ Err kind) → HasTaken before (meant form (read_of before) (line_of text)) bench (Err kind)
+cut_faulty form bench before text kind stands most is =
+    (stands, λ apart. cut_says form (read_of before) (line_of text) (omega (arith, line_shorter text)) ∙ ap (λ r. r >>= (λ words. words_say form (read_of before) words)) (is apart))
+
+pub cut_taken : (form : Form) (bench : Option Bench) (before : Option Served) (text : List ℕ) (words : List (List ℕ)) (result : Result Outcome FaultKind) → length text ≤ MOST_BYTES
+    → words_read (line_of text) ≡ Ok words → HasTaken before (words_say form (read_of before) words) bench result → HasTaken before (meant form (read_of before) (line_of text)) bench result
+cut_taken form bench before text words result most is taken =
+    let says : meant form (read_of before) (line_of text) ≡ words_say form (read_of before) words =
+    cut_says form (read_of before) (line_of text) (omega (arith, line_shorter text)) ∙ ap (λ r. r >>= (λ words. words_say form (read_of before) words)) is in
+    subst (λ (s : Result Meant FaultKind). HasTaken before s bench result) (sym says) taken
+
+-- the first line, and a later one
+pub took_first : (old new : Option Bench) (before : Option Served) (words : List (List ℕ)) (result : Result Outcome FaultKind) → StandsFor old before → old ≡ None
+    → HasTaken None (reads (first_line words)) new result → HasTaken before (reads (read_words (read_of before) words)) new result
+took_first old new None words result stands none taken = taken
+took_first old new (Some served) words result stands none taken = absurd (subst (λ (b : Option Bench). StandsFor b (Some served)) none stands)
+
+pub took_later : (bench : Option Bench) (old new : Bench) (before : Option Served) (words : List (List ℕ)) (result : Result Outcome FaultKind) → StandsFor bench before → bench ≡ Some old
+    → ((served : Served) → IsBench old served → HasTaken (Some served) (reads (later_line served.read words)) (Some new) result)
+    → HasTaken before (reads (read_words (read_of before) words)) (Some new) result
+took_later bench old new None words result stands is taken = absurd (subst (λ (b : Option Bench). StandsFor b None) is stands)
+took_later bench old new (Some served) words result stands is taken = taken served (subst (λ (b : Option Bench). StandsFor b (Some served)) is stands)
+
+-- a line of a script
+pub took_script : (form : Form) (old new : Option Bench) (before : Option Served) (words : List (List ℕ)) (result : Result Outcome FaultKind) → StandsFor old before → (length words == 0) ≡ false
+    → request_of form words ≡ None
+    → ((before : Option Served) → StandsFor old before → HasTaken before (reads (read_words (read_of before) words)) new result)
+    → HasTaken before (words_say form (read_of before) words) new result
+took_script form old new before words result stands some none taken =
+    subst (λ (s : Result Meant FaultKind). HasTaken before s new result) (sym (by_first form (read_of before) words None some none)) (taken before stands)
+
+-- a line that asks for something
+pub took_request : (form : Form) (bench : Option Bench) (before : Option Served) (words : List (List ℕ)) (request : Request) (result : Result Outcome FaultKind) → StandsFor bench before
+    → (length words == 0) ≡ false → request_of form words ≡ Some request
+    → MatchResult result (λ outcome. AsksFor outcome (request_line request (read_of before) words)) (λ kind. request_line request (read_of before) words ≡ Err kind)
+    → HasTaken before (words_say form (read_of before) words) bench result
+took_request form bench before words request result stands some is told =
+    subst (λ (s : Result Meant FaultKind). HasTaken before s bench result) (sym (by_first form (read_of before) words (Some request) some is))
+    (took_asked bench before (request_line request (read_of before) words) result stands told)
+
+-- a line that was kept, and one that was lost
+pub kept_line : (form : Form) (old new : Option Bench) (before : Option Served) (bytes line : List ℕ) (result : Result Outcome FaultKind) → StandsFor old before → IsOne bytes → AreKept bytes line None
+    → ((before : Option Served) → StandsFor old before → length line ≤ MOST_BYTES → HasTaken before (meant form (read_of before) (line_of line)) new result)
+    → HasTaken before (meant form (read_of before) bytes) new result
+kept_line form old new before bytes line result stands one kept taken =
+    let most : length line ≤ MOST_BYTES = subst (λ (l : List ℕ). length l ≤ MOST_BYTES) (sym kept.0) kept.1 in
+    let same : line_of line ≡ bytes = ap line_of kept.0 ∙ line_whole bytes one in
+    subst (λ (l : List ℕ). HasTaken before (meant form (read_of before) l) new result) same (taken before stands most)
+
+pub lost_line : (form : Form) (bench : Option Bench) (before : Option Served) (bytes kept : List ℕ) (kind : FaultKind) → StandsFor bench before → AreKept bytes kept (Some kind)
+    → HasTaken before (meant form (read_of before) bytes) bench (Err kind)
+lost_line form bench before bytes kept kind stands lost =
+    (stands, λ apart. long_says form (read_of before) bytes (lost.1 apart).1 ∙ ap Err (sym (lost.1 apart).0))
+
+-- the line of a number, read, done and answered, unless it has no answer
+pub turned : (form : Form) (number count : ℕ) (before : Option Served) (old new : Option Bench) (line : List ℕ) (end : LineEnd) (input rest from to : Option (List ℕ)) (outcome told : Outcome)
+    (words : List ℕ) (silent : Bool)
+    → StandsFor old before → (came : HasLine line end input rest) → silent ≡ is_silent form end.last came.bytes → HasBecome before (meant form (read_of before) came.bytes) outcome new
+    → count ≡ length (history_of (kept_in old)) → IsToldAs outcome told → IsPlain words
+    → Appends from to (if silent then [] else answer_of form number count told (kept_in new) words)
+    → HasTurned form number before end.last new input rest from to
+turned form number count before old new line end input rest from to outcome told words silent stands came is has counted told_as plain went =
+    let become = told_becomes before (meant form (read_of before) came.bytes) new outcome told has told_as in
+    let counts : count ≡ length (history_of (kept_of before)) = counted ∙ ap (λ k. length (history_of k)) (same_kept old before stands) in
+    let now : List ℕ = answer_of form number (length (history_of (kept_of before))) told (kept_of become.after) words in
+    let answer : answer_of form number count told (kept_in new) words ≡ now =
+    ap (λ (n : ℕ). answer_of form number n told (kept_in new) words) counts
+    ∙ ap (λ (k : Option (Kept Global)). answer_of form number (length (history_of (kept_of before))) told k words) (same_kept new become.after become.stands) in
+    record {
+      turn = record { line = came.bytes; outcome = told; answer = now; words = words };
+      after = become.after;
+      stands = become.stands;
+      is = record { one = came.one; becomes = become.becomes; plain = plain; answer = refl };
+      ended = came.ended;
+      told = subst (λ (s : Bool). Appends from to (if s then [] else now)) is (subst (λ (a : List ℕ). Appends from to (if silent then [] else a)) answer went);
+    }
