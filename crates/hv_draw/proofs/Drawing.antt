@@ -9,7 +9,8 @@ use Rattle.hv_script.specs.Script.{Said}
 use Rattle.hv_refine.specs.Room.{roomless}
 use Rattle.std.specs.FinMap.{keys}
 use Rattle.hv_tree.specs.Rows.{Rows}
-use Rattle.hv_draw.specs.Drawn.{HasDrawn, HasGraph, HasRun, IsGraph}
+use Rattle.hv_explain.specs.First.{HasRun}
+use Rattle.hv_draw.specs.Drawn.{HasDrawn, HasGraph, IsGraph}
 use Rattle.hv_draw.specs.Graph.{HasBlocks, head_text}
 
 pub drawn_of : (said : Said Global) (at : Option ℕ) (start kept : Kept Global) (old new : Option (List ℕ)) → start.config ≡ said.config → start.limit ≡ said.limit

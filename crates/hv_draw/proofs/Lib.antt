@@ -1,4 +1,3 @@
 mod Blocks
 mod Charting
 mod Drawing
-mod RunLines

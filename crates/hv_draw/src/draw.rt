@@ -7,11 +7,12 @@ ghost use Rattle.hv_script.specs.Reading.{said};
 ghost use Rattle.hv_draw.specs.Drawn.{HasDrawn, HasDrawnOf, HasGraph, IsGraph};
 
 use crate::graph::{push_blocks, push_head};
-use crate::in_order::run_in_order;
 use crate::links::push_links;
 use crate::made::made_ports;
+use crate::silent::Silent;
 use crate::text::push;
-use hv_history::{HostRefused, Kept};
+use hv_explain::explain_lines;
+use hv_history::Kept;
 use hv_run::{Exit, Failure, tell};
 use hv_script::{Script, parse};
 use std::alloc::{AllocError, Global};
@@ -74,23 +75,30 @@ fn draw_script<W: Write>(
         lines,
     } = script;
     let mut kept = Kept::boot(alloc, config, limit)?;
-    let ran = run_in_order(&mut kept, lines, at);
+    let mut nothing: Vec<u8> = Vec::new(alloc);
+    let ran = explain_lines(
+        &mut kept,
+        lines.as_slice(),
+        at,
+        &mut Silent {},
+        &mut nothing,
+    );
     let drawn = write_graph(alloc, &kept, out);
     ended(ran, drawn)
 }
 
 // Combines two results. The reason that not everything ran takes precedence over output that couldn't be
 // written.
-fn ended(ran: Result<(), HostRefused>, drawn: Result<(), Failure>) -> Result<(), Failure>
+fn ended(ran: Result<(), Failure>, drawn: Result<(), Failure>) -> Result<(), Failure>
     ensures ran { OnOk result (IsOk ran) }
     ensures drawn { OnOk result (IsOk drawn) }
-    ensures host { IfErr drawn (λ failure. exit_of failure ≡ Exit.Host)
+    ensures host { IfErr ran (λ failure. exit_of failure ≡ Exit.Host)
+        → IfErr drawn (λ failure. exit_of failure ≡ Exit.Host)
         → IfErr result (λ failure. exit_of failure ≡ Exit.Host) }
 {
     match ran {
         Ok(()) => drawn,
-        Err(HostRefused::HistoryFull) => Err(Failure::HistoryFull),
-        Err(HostRefused::Memory) => Err(Failure::Memory),
+        Err(failure) => Err(failure),
     }
 }
 

@@ -18,7 +18,6 @@ mod chart;
 mod draw;
 mod graph;
 mod head;
-mod in_order;
 mod inside;
 mod lanes;
 mod links;
@@ -27,6 +26,7 @@ mod notes;
 mod rowed;
 mod sequence;
 mod shapes;
+mod silent;
 mod text;
 mod ways;
 

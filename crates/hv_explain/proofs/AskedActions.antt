@@ -1,18 +1,25 @@
 -- What a processor asks for, to its end.
-use Rattle.std.proofs.Common.{◌≡◌, ℕ, ◌+◌, List, [], ◌∷◌, ◌++◌, length, refl, sym, ap, ◌∙◌, subst, All, Option, None, Some, Global}
+use Rattle.std.proofs.Common.{◌≡◌, ℕ, ◌+◌, List, [], ◌∷◌, ◌++◌, length, refl, sym, ap, ◌∙◌, subst, All, Option, None, Some, Global, ◌<◌, inl, inr, arith, append-nil, length-append}
+use Rattle.std.proofs.KnownBytes.{Appends-nil}
 use Rattle.std.proofs.lemmas.List.Elements.{All-cons, All-nil, All-push}
 use Rattle.hv_abi.specs.declared.frame.Frame.{Frame}
-use Rattle.hv_history.specs.Kept.{Kept}
+use Rattle.hv_history.proofs.Elements.{as_many}
+use Rattle.hv_history.specs.Kept.{IsRun, Kept}
 use Rattle.hv_history.specs.Run.{AreElements, GoesOnAt, element, restart, start_of}
 use Rattle.hv_history.specs.declared.entry.Entry.{Entry}
+use Rattle.hv_policy.specs.Call.{action_of}
+use Rattle.hv_policy.specs.declared.event.Access.{Access}
+use Rattle.hv_policy.specs.declared.event.Access.TheVariants as access
+use Rattle.hv_policy.specs.declared.event.Action.{Action}
 use Rattle.hv_policy.specs.declared.event.Action.TheVariants.{Hypercall}
 use Rattle.hv_policy.specs.declared.event.Caller.{Caller}
 use Rattle.hv_policy.specs.declared.reply.Reply.{Reply}
 use Rattle.hv_shared.specs.ByCaller.{receipts_by}
 use Rattle.hv_shared.specs.Pass.{receipt}
 use Rattle.hv_shared.specs.declared.receipts.Receipt.{Receipt}
+use Rattle.hv_threads.specs.Perform.{IsAccess, IsStopped, IsWhole}
 use Rattle.hv_threads.proofs.OwnReceipts.{IsBy, own_entries, own_first, receipts-append}
-use Rattle.hv_explain.specs.Written.{HasWritten, HasWrittenAll, HasWrittenElement, Telling}
+use Rattle.hv_explain.specs.Written.{HasWritten, HasWrittenElement, HasWrittenOne, HasWrittenUpTo, Telling, entry_of}
 use Rattle.hv_explain.proofs.WrittenLines.{told_then}
 
 -- the receipts of entries, and of one more of the processor
@@ -21,12 +28,25 @@ own_push : (by : Caller) (n : ℕ) (es : List (Entry Global)) (e : Entry Global)
 own_push by n es e own = receipts-append by n es (e ∷ []) ∙ ap (λ (l : List Receipt). receipts_by by n es ++ l) (own_first by (n + length es) e [] own)
 
 -- the call continues by one element more
-elements_push : (by : Caller) (frame : Frame Global) (es : List (Entry Global)) (now : Frame Global) (reply : Reply) → AreElements by frame es now → GoesOnAt (start_of now + 1) reply
+pub elements_push : (by : Caller) (frame : Frame Global) (es : List (Entry Global)) (now : Frame Global) (reply : Reply) → AreElements by frame es now → GoesOnAt (start_of now + 1) reply
     → AreElements by frame (es ++ record { event = element by now; reply = reply } ∷ []) (restart now (start_of now + 1))
 elements_push by frame [] now reply is goes =
     (ap (element by) is, subst (λ (f : Frame Global). GoesOnAt (start_of f + 1) reply) is goes, ap (λ (f : Frame Global). restart f (start_of f + 1)) is)
 elements_push by frame (e ∷ es) now reply is goes =
     (is.0, is.1, elements_push by (restart frame (start_of frame + 1)) es now reply is.2 goes)
+
+elements_by : (by : Caller) (frame : Frame Global) (es : List (Entry Global)) (now : Frame Global) → AreElements by frame es now → All (IsBy by) es
+elements_by by frame [] now is = All-nil (IsBy by)
+elements_by by frame (e ∷ es) now is = All-cons (IsBy by) e es (ap (λ x. x.by) is.0) (elements_by by (restart frame (start_of frame + 1)) es now is.2)
+
+few_elements : (by : Caller) (frame : Frame Global) (es : List (Entry Global)) (now : Frame Global) → AreElements by frame es now → length es < 4096
+few_elements by frame es now is = let many = as_many by frame es now is in omega arith
+
+part_of : (by : Caller) (frame : Frame Global) (es : List (Entry Global)) (now : Frame Global) → AreElements by frame es now → (n : ℕ) → IsStopped by (Hypercall frame) (receipts_by by n es)
+part_of by frame es now is n = record {
+  now = now;
+  elements = subst (λ (l : List (Entry Global)). AreElements by frame l now) (sym (own_entries by n es (elements_by by frame es now is))) is;
+}
 
 module _ (tells : Telling) (by : Caller) (old : Kept Global) (v : Option (List ℕ)) where
   -- some elements of a call were told, and `now` is the frame that is to be asked after them
@@ -35,12 +55,9 @@ module _ (tells : Telling) (by : Caller) (old : Kept Global) (v : Option (List �
     pub elements : AreElements by frame before now
     pub told : HasWritten tells before old new v w
 
-  elements_by : (frame : Frame Global) (es : List (Entry Global)) (now : Frame Global) → AreElements by frame es now → All (IsBy by) es
-  elements_by frame [] now is = All-nil (IsBy by)
-  elements_by frame (e ∷ es) now is = All-cons (IsBy by) e es (ap (λ x. x.by) is.0) (elements_by (restart frame (start_of frame + 1)) es now is.2)
-
   -- one element more, after which the call continues
-  pub begun_more : (frame now next : Frame Global) (n : ℕ) (mid new : Kept Global) (u w : Option (List ℕ)) → HasBegun frame now mid u → (told : HasWrittenElement tells by now (Some n) mid new u w)
+  abbrev pub begun_more : (frame now next : Frame Global) (n : ℕ) (mid new : Kept Global) (u w : Option (List ℕ)) → HasBegun frame now mid u
+      → (told : HasWrittenElement tells by now (Some n) mid new u w)
       → next ≡ restart now n → HasBegun frame next new w
   begun_more frame now next n mid new u w begun told is =
       let goes = told.goes in
@@ -52,26 +69,96 @@ module _ (tells : Telling) (by : Caller) (old : Kept Global) (v : Option (List �
         told = told_then tells begun.before (record { event = element by now; reply = told.reply } ∷ []) old mid new v u w begun.told told.told;
       }
 
+  -- none yet
+  abbrev pub begun_none : (frame now : Frame Global) → now ≡ frame → HasBegun frame now old v
+  begun_none frame now is =
+      record { before = []; elements = is; told = record { history = sym (append-nil old.history); config = refl; limit = refl; text = []; told = refl; wrote = Appends-nil v } }
+
+  pub more_count : (frame now next : Frame Global) (n : ℕ) (mid new : Kept Global) (u w : Option (List ℕ)) → (begun : HasBegun frame now mid u)
+      → (told : HasWrittenElement tells by now (Some n) mid new u w)
+      → (is : next ≡ restart now n) → length (begun_more frame now next n mid new u w begun told is).before ≡ length begun.before + 1
+  more_count frame now next n mid new u w begun told is = length-append begun.before (record { event = element by now; reply = told.reply } ∷ [])
+
+  -- so many elements were told, and the call would go on
+  pub begun_stops : (frame now : Frame Global) (most : ℕ) (new : Kept Global) (w : Option (List ℕ)) → (begun : HasBegun frame now new w) → length begun.before ≡ most → IsRun new
+      → HasWrittenUpTo tells by (Hypercall frame) most old new v w
+  begun_stops frame now most new w begun count run = record {
+    did = record {
+      own = begun.before;
+      history = begun.told.history;
+      by_it = elements_by by frame begun.before now begun.elements;
+      ended = inr (count, part_of by frame begun.before now begun.elements);
+      within = omega (arith, count);
+      few = let less = few_elements by frame begun.before now begun.elements in omega (arith, less);
+      config = begun.told.config;
+      limit = begun.told.limit;
+      run = run;
+    };
+    told = begun.told;
+  }
+
   -- the last one
-  pub begun_ends : (frame now : Frame Global) (mid new : Kept Global) (u w : Option (List ℕ)) → HasBegun frame now mid u → HasWrittenElement tells by now None mid new u w
-      → HasWrittenAll tells by (Hypercall frame) old new v w
-  begun_ends frame now mid new u w begun told =
+  pub begun_ends : (frame now : Frame Global) (most : ℕ) (mid new : Kept Global) (u w : Option (List ℕ)) → (begun : HasBegun frame now mid u) → HasWrittenElement tells by now None mid new u w
+      → length begun.before < most → IsRun new → HasWrittenUpTo tells by (Hypercall frame) most old new v w
+  begun_ends frame now most mid new u w begun told room run =
       let last : Entry Global = record { event = element by now; reply = told.reply } in
-      let all = elements_by frame begun.before now begun.elements in
-      let n = 1 + length old.history in
+      let before_by = elements_by by frame begun.before now begun.elements in
+      let both = told_then tells begun.before (last ∷ []) old mid new v u w begun.told told.told in
       record {
-        own = begun.before ++ last ∷ [];
-        told = told_then tells begun.before (last ∷ []) old mid new v u w begun.told told.told;
-        all = All-push (IsBy by) begun.before last all refl;
-        whole = record {
-          last = now;
-          reply = told.reply;
-          whole = record {
-            before = receipts_by by n begun.before;
-            number = n + length begun.before;
-            elements = subst (λ (l : List (Entry Global)). AreElements by frame l now) (sym (own_entries by n begun.before all)) begun.elements;
-            all = own_push by n begun.before last refl;
-            ends = told.ends;
-          };
+        did = record {
+          own = begun.before ++ last ∷ [];
+          history = both.history;
+          by_it = All-push (IsBy by) begun.before last before_by refl;
+          ended = inl (λ n. record {
+            last = now;
+            reply = told.reply;
+            whole = record {
+              before = receipts_by by n begun.before;
+              number = n + length begun.before;
+              elements = subst (λ (l : List (Entry Global)). AreElements by frame l now) (sym (own_entries by n begun.before before_by)) begun.elements;
+              all = own_push by n begun.before last refl;
+              ends = told.ends;
+            };
+          });
+          within = omega (arith, room, length-append begun.before (last ∷ []));
+          few = let less = few_elements by frame begun.before now begun.elements in omega (arith, less, length-append begun.before (last ∷ []));
+          config = both.config;
+          limit = both.limit;
+          run = run;
         };
+        told = both;
       }
+
+-- the receipt of an access is all of it
+one_event : (by : Caller) (given : Access) (list : List Receipt) → IsAccess by (action_of given) list → IsWhole by (action_of given) list
+one_event by (access.ReadMsr msr) list one = one
+one_event by (access.WriteMsr msr value) list one = one
+one_event by (access.ReadSlot sint) list one = one
+one_event by (access.ClearSlot sint) list one = one
+one_event by (access.ReadFlags sint) list one = one
+one_event by (access.ClearFlag sint flag) list one = one
+one_event by access.TakeInterrupt list one = one
+
+-- an access happened, and was told
+pub one_told : (tells : Telling) (by : Caller) (given : Access) (what : Action Global) (reply : Reply) (most : ℕ) (old new : Kept Global) (v w : Option (List ℕ)) → 0 < most → action_of given ≡ what
+    → IsRun new → HasWrittenOne tells by what reply old new v w → HasWrittenUpTo tells by what most old new v w
+one_told tells by given what reply most old new v w some is run =
+    subst (λ (what : Action Global). HasWrittenOne tells by what reply old new v w → HasWrittenUpTo tells by what most old new v w) is of_access
+  where
+    of_access : HasWrittenOne tells by (action_of given) reply old new v w → HasWrittenUpTo tells by (action_of given) most old new v w
+    of_access told =
+        let entry : Entry Global = entry_of by (action_of given) reply in
+        record {
+          did = record {
+            own = entry ∷ [];
+            history = told.history;
+            by_it = All-cons (IsBy by) entry [] refl (All-nil (IsBy by));
+            ended = inl (λ n. one_event by given (receipts_by by n (entry ∷ [])) (record { number = n; reply = reply; all = own_first by n entry [] refl }));
+            within = some;
+            few = omega arith;
+            config = told.config;
+            limit = told.limit;
+            run = run;
+          };
+          told = told;
+        }

@@ -3,3 +3,4 @@ pub mod AskedActions
 pub mod Lines
 mod Following
 mod LastEntry
+pub mod RunLines

@@ -6,6 +6,7 @@ use Rattle.std.specs.declared.alloc.Global.{Global}
 use Rattle.hv_abi.specs.declared.frame.Frame.{Frame}
 use Rattle.hv_effect.specs.Effect.{Tells}
 use Rattle.hv_effect.specs.declared.effect.Effect.{Effect}
+use Rattle.hv_explain.specs.First.{HasRun}
 use Rattle.hv_history.specs.Kept.{HasGained, Kept, IsRun}
 use Rattle.hv_history.specs.Row.{events_of}
 use Rattle.hv_history.specs.Run.{GoesOnAt, IsMore, element, start_of}
@@ -19,9 +20,8 @@ use Rattle.hv_policy.specs.declared.event.Caller.{Caller}
 use Rattle.hv_policy.specs.declared.reply.Reply.{Reply}
 use Rattle.hv_script.specs.Script.{Said, script_of}
 use Rattle.hv_script.specs.declared.line.Line.{Line}
-use Rattle.hv_shared.specs.ByCaller.{receipts_by}
 use Rattle.hv_text.specs.Audit.{caller_text}
-use Rattle.hv_threads.specs.Perform.{IsWhole}
+use Rattle.hv_threads.specs.Acted.{HasActed}
 use Rattle.hv_words.specs.Words.{IsPlain}
 
 -- whether a text may be told of an event with this number, reply and effect
@@ -103,20 +103,17 @@ pub record HasWrittenElement (tells : Telling) (by : Caller) (frame : Frame Glob
   pub goes : IfSome next (λ n. (n ≡ start_of frame + 1) × GoesOnAt n reply)
   pub ends : IfNone next (IsMore reply → ⊥)
 
--- as `HasWritten`, for what a processor asks for, to its end
-pub record HasWrittenAll (tells : Telling) (by : Caller) (what : Action Global) (old new : Kept Global)
-    (before after : Option (List ℕ)) : Type 0 where
-  pub own : List (Entry Global)
-  pub told : HasWritten tells own old new before after
-  pub all : All (λ e. e.event.by ≡ by) own
-  pub whole : IsWhole by what (receipts_by by (1 + length old.history) own)
+-- as `HasWritten`, for what a processor asks for, to its end or up to `most` events
+pub record HasWrittenUpTo (tells : Telling) (by : Caller) (what : Action Global) (most : ℕ)
+    (old new : Kept Global) (before after : Option (List ℕ)) : Type 0 where
+  pub did : HasActed by what most old new
+  pub told : HasWritten tells did.own old new before after
 
--- as `HasWritten`, for the lines of a script, one after another
-pub record HasWrittenLines (tells : Telling) (lines : List (Line Global)) (old new : Kept Global)
-    (before after : Option (List ℕ)) : Type 0 where
-  pub more : List (Entry Global)
-  pub told : HasWritten tells more old new before after
-  pub order : AreInOrder (1 + length old.history) lines more
+-- as `HasWritten`, for the lines of a script from its boot, one after another, up to this event
+pub record HasWrittenLines (tells : Telling) (at : Option ℕ) (lines : List (Line Global))
+    (old new : Kept Global) (before after : Option (List ℕ)) : Type 0 where
+  pub ran : HasRun at lines old new
+  pub told : HasWritten tells new.history old new before after
 
 -- The writer gets a text for each event of a history. The history is a run from the script's boot, with at
 -- most as many events as its limit. The events are those that the script's lines ask for, in order, each

@@ -15,7 +15,8 @@
 //! A [`Teller`] decides what is written about an event. It gets the event's effect, which is that of its
 //! step. This crate's own writes the words, and other crates have tellers of their own. [`explain_with`] runs
 //! a script with any teller, and [`follow_with`] takes the events of an audit with any teller.
-//! [`explain_last`] explains the last event of a history that was taken before.
+//! [`explain_lines`] runs a script's lines on a machine, up to an event. [`explain_last`] explains the last
+//! event of a history that was taken before.
 #![tactic(auto)]
 
 mod audit;
@@ -29,5 +30,6 @@ mod teller;
 
 pub use follow::{follow_text, follow_with};
 pub use last::explain_last;
+pub use run::explain_lines;
 pub use script::{explain_text, explain_with};
 pub use teller::Teller;

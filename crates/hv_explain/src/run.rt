@@ -1,9 +1,9 @@
 // Running the lines of a script, one after another.
-ghost use Rattle.std.specs.Prelude.{◌≡◌, IfErr, IfOk, OnOk};
+ghost use Rattle.std.specs.Prelude.{◌≡◌, ◌<◌, ◌-◌, [], IfErr, IfOk, None, OnOk, Some, min, ℕ};
 ghost use Rattle.hv_history.specs.Kept.{IsRun};
 ghost use Rattle.hv_policy.specs.declared.event.Action.TheVariants.{Hypercall};
 ghost use Rattle.hv_run.specs.Failure.{exit_of};
-ghost use Rattle.hv_explain.specs.Written.{HasWrittenAll, HasWrittenElement, HasWrittenLines};
+ghost use Rattle.hv_explain.specs.Written.{HasWrittenElement, HasWrittenLines, HasWrittenUpTo};
 
 use crate::event::explain_event;
 use crate::teller::Teller;
@@ -15,35 +15,55 @@ use hv_script::Line;
 use std::alloc::Global;
 use std::io::Write;
 
-// Runs the lines of a script in order, and lets the teller write about each event. It stops at the first
-// event that the host refuses, or whose text can't be written.
+/// Runs the lines of a script in order until this many events have happened, and lets the teller write about
+/// each event. It stops at the first event that the host refuses, or whose text can't be written.
 pub fn explain_lines<T: Teller, W: Write>(
     kept: &mut Kept<Global>,
     lines: &[Line<Global>],
+    at: Option<u64>,
     teller: &mut T,
     out: &mut W,
 ) -> Result<(), Failure>
-    ensures told { OnOk result (HasWrittenLines T.tells lines.now kept.old kept.new (W.contents out.old)
+    requires { kept.old.history ≡ [] }
+    ensures told { OnOk result (HasWrittenLines T.tells at lines.now kept.old kept.new (W.contents out.old)
         (W.contents out.new)) }
     ensures run { IsRun kept.new }
     ensures host { IfErr result (λ failure. exit_of failure ≡ Exit.Host) }
 {
     // Proof: the history is a run.
     let _history = kept.history();
-    for at in 0..lines.len() {
-        explain_line(kept, &lines[at], teller, out)?;
+    for place in 0..lines.len() {
+        let most = events_to(at, kept.history().len());
+        if most == 0 {
+            return Ok(());
+        }
+        explain_line(kept, &lines[place], most, teller, out)?;
     }
     Ok(())
 }
 
-// Runs a line to its end: the elements of a hypercall one after another, or an access.
+// Returns the most events that may follow after so many, or `u32::MAX` if there is no bound, or a higher one.
+fn events_to(at: Option<u64>, before: usize) -> u32
+    ensures none { at ≡ None → result ≡ u32.MAX }
+    ensures some { (n : ℕ) → at ≡ Some n → result ≡ min (n - before) u32.MAX }
+{
+    match at {
+        Some(at) => at.saturating_sub(before as u64).min(u64::from(u32::MAX)) as u32,
+        None => u32::MAX,
+    }
+}
+
+// Runs a line to its end, or up to so many events: the elements of a hypercall one after another, or an
+// access.
 fn explain_line<T: Teller, W: Write>(
     kept: &mut Kept<Global>,
     line: &Line<Global>,
+    most: u32,
     teller: &mut T,
     out: &mut W,
 ) -> Result<(), Failure>
-    ensures told { OnOk result (HasWrittenAll T.tells line.now.by line.now.action kept.old kept.new
+    requires { 0 < most }
+    ensures told { OnOk result (HasWrittenUpTo T.tells line.now.by line.now.action most kept.old kept.new
         (W.contents out.old)
         (W.contents out.new)) }
     ensures run { IsRun kept.new }
@@ -54,19 +74,21 @@ fn explain_line<T: Teller, W: Write>(
             Ok(_) => Ok(()),
             Err(failure) => Err(failure),
         },
-        Err(frame) => explain_call(kept, line.by, frame, teller, out),
+        Err(frame) => explain_call(kept, line.by, frame, most, teller, out),
     }
 }
 
-// Runs a hypercall to its end, from the frame's start index on.
+// Runs a hypercall to its end, from the frame's start index on, or up to so many elements.
 fn explain_call<T: Teller, W: Write>(
     kept: &mut Kept<Global>,
     by: Caller,
     frame: &Frame<Global>,
+    most: u32,
     teller: &mut T,
     out: &mut W,
 ) -> Result<(), Failure>
-    ensures told { OnOk result (HasWrittenAll T.tells by (Hypercall frame.now) kept.old kept.new
+    requires { 0 < most }
+    ensures told { OnOk result (HasWrittenUpTo T.tells by (Hypercall frame.now) most kept.old kept.new
         (W.contents out.old)
         (W.contents out.new)) }
     ensures run { IsRun kept.new }
@@ -77,11 +99,16 @@ fn explain_call<T: Teller, W: Write>(
     let Ok(mut now) = frame.copy() else {
         return Err(Failure::Memory);
     };
+    let mut left = most;
     loop {
         match explain_element(kept, by, &now, teller, out) {
             Ok(Some(next)) => now = now.with_start(next),
             Ok(None) => return Ok(()),
             Err(failure) => return Err(failure),
+        }
+        left -= 1;
+        if left == 0 {
+            return Ok(());
         }
     }
 }

@@ -87,7 +87,7 @@ fn explain_script<T: Teller, W: Write>(
     ensures silent { IfErr result (λ failure. exit_of failure ≡ Exit.Script → out.new ≡ out.old) }
 {
     let mut kept = Kept::boot(alloc, script.config, script.limit)?;
-    let told = explain_lines(&mut kept, script.lines.as_slice(), teller, out);
+    let told = explain_lines(&mut kept, script.lines.as_slice(), None, teller, out);
     match (told, out.flush()) {
         (Ok(()), Ok(())) => Ok(()),
         (Ok(()), Err(_)) => Err(Failure::Write),

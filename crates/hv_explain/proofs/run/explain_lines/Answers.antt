@@ -1,22 +1,44 @@
-use Rattle.std.proofs.Common.{◌≡◌, ◌+◌, ◌<◌, List, [], ◌∷◌, ◌++◌, length, take, suc, sym, ap, ◌∙◌, subst, arith, take-suc, Global}
-use Rattle.hv_script.specs.declared.line.Line.{Line}
-use Rattle.hv_explain.specs.Written.{HasWrittenLines}
-use Rattle.hv_explain.proofs.Lines.{lines_more}
+use Rattle.std.proofs.Common.{◌≡◌, ◌∙◌, ◌+◌, ◌<◌, ℕ, List, [], ◌∷◌, Option, add-one, ap, arith, drop, get_or, length, subst, sym, Global}
+use Rattle.std.proofs.Math.Seq.{drop-cons}
+use Rattle.std.proofs.lemmas.List.{drop_all}
+use Rattle.hv_explain.proofs.Lines.{told_ends, told_first, told_more, told_stops}
+use Rattle.hv_explain.proofs.RunLines.{AreMost}
 use Rattle.hv_explain.proofs.run.explain_lines.Goals as goal
+use Rattle.hv_script.specs.declared.line.Line.{Line}
 
-pub loop-at-preserved : goal.loop-at-preserved
-loop-at-preserved g c =
-    let at = c.loop-at.at in
+-- the lines from a place on begin with the line there
+front : (lines : List (Line Global)) (place : ℕ) (line : Line Global) → place < length lines → line ≡ get_or lines place line → drop place lines ≡ line ∷ drop (place + 1) lines
+front lines place line less is = drop-cons lines place line less ∙ (λ j. sym is j ∷ drop (sym (add-one place) j) lines)
+
+room_of : (at : Option ℕ) {before now most : ℕ} → before ≡ now → AreMost at before most → AreMost at now most
+room_of at {before} {now} {most} same room = subst (λ (n : ℕ). AreMost at n most) same room
+
+pub loop-place-init : goal.loop-place-init
+loop-place-init g c = record {
+  so_far = told_first g.T.Teller.tells c.args.at c.args.lines.now c.args.kept.now (g.W.Write.contents c.args.out.now) c.requires;
+  run = c.history-history.ensures.run;
+}
+
+pub loop-place-preserved : goal.loop-place-preserved
+loop-place-preserved g c =
     let lines : List (Line Global) = c.args.lines.now in
-    let line : Line Global = c.index-lines-at.result in
-    let within : at < length lines = omega (arith, c.loop-at-test.true) in
-    let next : at + 1 ≡ suc at = omega arith in
-    let more : take (at + 1) lines ≡ take at lines ++ line ∷ [] =
-    ap (λ k. take k lines) next ∙ take-suc lines at line within ∙ ap (λ (l : Line Global). take at lines ++ l ∷ []) (sym c.index-lines-at.is) in
+    let line : Line Global = c.index-lines-place.result in
+    let place = c.loop-place.place in
+    let is : drop place lines ≡ line ∷ drop (place + 1) lines = front lines place line c.loop-place-test.true c.index-lines-place.is in
+    let room = room_of c.args.at (c.len.ensures ∙ ap length c.history.ensures.list) (record { none = c.events_to-most.ensures.none; some = c.events_to-most.ensures.some }) in
     record {
-      so_far = subst (λ (ls : List (Line Global)). HasWrittenLines g.T.Teller.tells ls c.args.kept.now c.explain_line.new.kept (g.W.Write.contents c.args.out.now)
-          (g.W.Write.contents c.explain_line.new.out))
-          (sym more)
-          (lines_more g.T.Teller.tells c.args.kept.now _ (take at lines) line c.loop-at.kept _ _ _ c.loop-at.invariant.so_far c.in_ok-explain_line.ensures.told);
+      so_far = told_more g.T.Teller.tells c.args.at lines c.args.kept.now (g.W.Write.contents c.args.out.now) (drop place lines) (drop (place + 1) lines) line c.events_to-most.result c.loop-place.kept
+          c.explain_line.new.kept _ _ is room (omega (arith, c.if-most-eq0.false)) c.loop-place.invariant.so_far c.in_ok-explain_line.ensures.told;
       run = c.in_ok-explain_line.ensures.run;
     }
+
+pub returns-then-most-eq0-clause-told : goal.returns-then-most-eq0-clause-told
+returns-then-most-eq0-clause-told g c =
+    let room = room_of c.args.at (c.len.ensures ∙ ap length c.history.ensures.list) (record { none = c.events_to-most.ensures.none; some = c.events_to-most.ensures.some }) in
+    told_stops g.T.Teller.tells c.args.at c.args.lines.now c.args.kept.now (g.W.Write.contents c.args.out.now) (drop c.loop-place.place c.args.lines.now) c.events_to-most.result
+    c.loop-place.kept _ room c.if-most-eq0.true c.loop-place.invariant.so_far
+
+pub returns-clause-told : goal.returns-clause-told
+returns-clause-told g c =
+    told_ends g.T.Teller.tells c.args.at c.args.lines.now c.args.kept.now (g.W.Write.contents c.args.out.now) (drop c.loop-place.place c.args.lines.now) c.loop-place.kept _
+    (drop_all c.loop-place.place c.args.lines.now (omega (arith, c.loop-place-test.false))) c.loop-place.invariant.so_far

@@ -1,10 +1,10 @@
-use Rattle.std.proofs.Common.{take}
+use Rattle.std.proofs.Common.{drop}
 use Rattle.hv_history.specs.Kept.{IsRun}
-use Rattle.hv_explain.specs.Written.{HasWrittenLines}
+use Rattle.hv_explain.proofs.Lines.{HasToldUpTo}
 use Rattle.hv_explain.proofs.run.explain_lines.Given as goal
 
-abbrev pub invariant-loop-at : goal.invariant-loop-at
-invariant-loop-at g l = record {
-  so_far : HasWrittenLines g.T.Teller.tells (take l.at l.lines) l.fn.kept l.kept (g.W.Write.contents l.initial.out) (g.W.Write.contents l.out);
+abbrev pub invariant-loop-place : goal.invariant-loop-place
+invariant-loop-place g l = record {
+  so_far : HasToldUpTo g.T.Teller.tells l.at l.lines (drop l.place l.lines) l.fn.kept l.kept (g.W.Write.contents l.initial.out) (g.W.Write.contents l.out);
   run : IsRun l.kept;
 }

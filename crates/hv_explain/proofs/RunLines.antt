@@ -1,11 +1,9 @@
 -- Lines that are run one after another, up to an event.
 use Rattle.std.proofs.Common.{◌≡◌, ℕ, ◌+◌, ◌-◌, ◌<◌, ◌≤◌, ◌⊎◌, inl, inr, min, List, [], ◌∷◌, ◌++◌, length, refl, sym, ap, ◌∙◌, subst, arith, append-nil, append_assoc}
-use Rattle.std.proofs.Common.{reverse, length-append, All, IfSome, Option, None, Some, Global}
-use Rattle.std.proofs.lemmas.List.{reverse-reverse}
+use Rattle.std.proofs.Common.{length-append, All, IfSome, Option, None, Some, Global}
 use Rattle.std.proofs.lemmas.List.Elements.{All-nil}
 use Rattle.hv_history.specs.Kept.{Kept}
 use Rattle.hv_history.specs.declared.entry.Entry.{Entry}
-use Rattle.hv_phases.proofs.HandedLines.{turned}
 use Rattle.hv_phases.proofs.PhasedHistories.{order-push}
 use Rattle.hv_phases.specs.Lines.{AreInOrder}
 use Rattle.hv_script.specs.declared.line.Line.{Line}
@@ -14,12 +12,12 @@ use Rattle.hv_threads.specs.Perform.{IsStopped, IsWhole}
 use Rattle.hv_threads.proofs.ActOutcomes.{none_stopped}
 use Rattle.hv_threads.proofs.OwnReceipts.{IsBy}
 use Rattle.hv_threads.specs.Acted.{AreUpTo, HasActed}
-use Rattle.hv_draw.specs.Drawn.{AreBegun, AreFirst, HasRun}
+use Rattle.hv_explain.specs.First.{AreBegun, AreFirst, HasRun, IsPart}
 
 -- some lines were run, each to its end
 pub record HasRunSome (at : Option ℕ) (lines left : List (Line Global)) (entries : List (Entry Global)) : Type 0 where
   pub done : List (Line Global)
-  pub split : lines ≡ done ++ reverse left
+  pub split : lines ≡ done ++ left
   pub order : AreInOrder 1 done entries
   pub within : IfSome at (λ n. length entries ≤ n)
 
@@ -42,9 +40,9 @@ none_so_far : (at : Option ℕ) (entries : List (Entry Global)) → entries ≡ 
 none_so_far None entries none = tt
 none_so_far (Some n) entries none = let e = ap length none in omega arith
 
-pub running_first : (at : Option ℕ) (lines left : List (Line Global)) (old : Kept Global) → left ≡ reverse lines → old.history ≡ [] → IsRunning at lines left old old
+pub running_first : (at : Option ℕ) (lines left : List (Line Global)) (old : Kept Global) → left ≡ lines → old.history ≡ [] → IsRunning at lines left old old
 running_first at lines left old is none = record {
-  so_far = inl (record { done = []; split = sym (ap reverse is ∙ reverse-reverse lines); order = none; within = none_so_far at old.history none });
+  so_far = inl (record { done = []; split = sym is; order = none; within = none_so_far at old.history none });
   config = refl;
   limit = refl;
 }
@@ -52,10 +50,13 @@ running_first at lines left old is none = record {
 reached : (at : Option ℕ) (lines : List (Line Global)) (entries : List (Entry Global)) → HasReached at lines entries → AreFirst at lines entries
 reached at lines entries has = subst (λ (a : Option ℕ). AreFirst a lines entries) (sym has.1) (inr (has.0, refl))
 
--- the next line
-module _ (at : Option ℕ) (lines left rest : List (Line Global)) (line : Line Global) (old now : Kept Global) (most : ℕ) (is : left ≡ rest ++ line ∷ [])
-    (room : AreMost at (length now.history) most) where
-  -- nothing of it may happen
+-- nothing of the lines that are left
+none_begun : (n : ℕ) (left : List (Line Global)) → IsPart n left []
+none_begun n [] = refl
+none_begun n (line ∷ left) = (All-nil (IsBy line.by), none_stopped line.by line.action)
+
+-- no event may follow
+module _ (at : Option ℕ) (lines left : List (Line Global)) (old now : Kept Global) (most : ℕ) (room : AreMost at (length now.history) most) where
   stops_here : (at_is : Option ℕ) → at ≡ at_is → most ≡ 0 → HasRunSome at lines left now.history → HasReached at lines now.history
   stops_here None same none some = let m = room.none same in absurd (omega arith)
   stops_here (Some n) same none some =
@@ -64,13 +65,13 @@ module _ (at : Option ℕ) (lines left rest : List (Line Global)) (line : Line G
       let n_is : n ≡ length now.history = omega arith in (
         record {
           done = some.done;
-          left = line ∷ reverse rest;
+          left = left;
           own = now.history;
           part = [];
-          split = some.split ∙ ap (λ (l : List (Line Global)). some.done ++ l) (turned left rest line is);
+          split = some.split;
           all = sym (append-nil now.history);
           order = some.order;
-          next = (All-nil (IsBy line.by), none_stopped line.by line.action);
+          next = none_begun (length now.history + 1) left;
         },
         same ∙ ap (λ (k : ℕ). Some k) n_is,
       )
@@ -82,6 +83,9 @@ module _ (at : Option ℕ) (lines left rest : List (Line Global)) (line : Line G
   pub running_stops : most ≡ 0 → IsRunning at lines left old now → HasRun at lines old now
   running_stops none running = record { order = stops none running.so_far; config = running.config; limit = running.limit }
 
+-- the next line
+module _ (at : Option ℕ) (lines left rest : List (Line Global)) (line : Line Global) (old now : Kept Global) (most : ℕ) (is : left ≡ line ∷ rest)
+    (room : AreMost at (length now.history) most) where
   module _ (new : Kept Global) (did : HasActed line.by line.action most now new) where
     count : length new.history ≡ length now.history + length did.own
     count = ap length did.history ∙ length-append now.history did.own
@@ -94,7 +98,7 @@ module _ (at : Option ℕ) (lines left rest : List (Line Global)) (line : Line G
     whole_next : HasRunSome at lines left now.history → ((n : ℕ) → IsWhole line.by line.action (receipts_by line.by n did.own)) → HasRunSome at lines rest new.history
     whole_next some whole = record {
       done = some.done ++ line ∷ [];
-      split = some.split ∙ ap (λ (l : List (Line Global)). some.done ++ l) (turned left rest line is) ∙ sym (append_assoc some.done (line ∷ []) (reverse rest));
+      split = some.split ∙ ap (λ (l : List (Line Global)). some.done ++ l) is ∙ sym (append_assoc some.done (line ∷ []) rest);
       order = subst (AreInOrder 1 (some.done ++ line ∷ [])) (sym did.history) (order-push 1 some.done now.history line did.own some.order did.by_it (whole (1 + length now.history)));
       within = within_next at refl some.within;
     }
@@ -114,10 +118,10 @@ module _ (at : Option ℕ) (lines left rest : List (Line Global)) (line : Line G
     part_next some own part = (
       record {
         done = some.done;
-        left = line ∷ reverse rest;
+        left = line ∷ rest;
         own = now.history;
         part = did.own;
-        split = some.split ∙ ap (λ (l : List (Line Global)). some.done ++ l) (turned left rest line is);
+        split = some.split ∙ ap (λ (l : List (Line Global)). some.done ++ l) is;
         all = did.history;
         order = some.order;
         next = (did.by_it, part (length now.history + 1));
@@ -139,7 +143,7 @@ module _ (at : Option ℕ) (lines left rest : List (Line Global)) (line : Line G
 
 all_run : (at at_is : Option ℕ) (lines left : List (Line Global)) (entries : List (Entry Global)) → at ≡ at_is → left ≡ [] → HasRunSome at lines left entries → AreFirst at_is lines entries
 all_run at at_is lines left entries same none some =
-    let order = subst (λ (ls : List (Line Global)). AreInOrder 1 ls entries) (sym (some.split ∙ ap (λ (l : List (Line Global)). some.done ++ reverse l) none ∙ append-nil some.done)) some.order in
+    let order = subst (λ (ls : List (Line Global)). AreInOrder 1 ls entries) (sym (some.split ∙ ap (λ (l : List (Line Global)). some.done ++ l) none ∙ append-nil some.done)) some.order in
     by_case at_is (subst (λ (a : Option ℕ). IfSome a (λ n. length entries ≤ n)) same some.within) order
   where
     by_case : (a : Option ℕ) → IfSome a (λ n. length entries ≤ n) → AreInOrder 1 lines entries → AreFirst a lines entries
