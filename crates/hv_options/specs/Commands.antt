@@ -48,11 +48,19 @@ file_rule = record (new_rule (codes "FILE")) { required = true }
 abbrev pub asm_line : App
 asm_line = with_rule (new_app (codes "asm")) file_rule
 
+-- a command line, with the commands that read a script, or an audit beside it
+abbrev pub with_audits : App → App
+with_audits line = with_subcommand (with_subcommand (with_subcommand (with_subcommand line run_line.top)
+    check_line.top) explain_line.top) trace_line.top
+
+-- and with the others
+abbrev pub with_others : App → App
+with_others line = with_subcommand (with_subcommand (with_subcommand line serve_line.top) draw_line.top)
+    asm_line.top
+
 -- the whole command line
 abbrev pub program_line : App
-program_line = with_subcommand (with_subcommand (with_subcommand (with_subcommand (with_subcommand
-    (with_subcommand (with_subcommand bare_line run_line.top) check_line.top) explain_line.top)
-    trace_line.top) serve_line.top) draw_line.top) asm_line.top
+program_line = with_others (with_audits bare_line)
 
 -- a request: a command, with the names of its files and its flags
 pub data Asked : Type 0 where

@@ -7,7 +7,7 @@ ghost use Rattle.hv_options.specs.Commands.{Asked, asked_by, asked_by_matches, a
 ghost use Rattle.hv_options.specs.Commands.{asm_by, asm_line, at_rule, audit_rule, check_by, check_line};
 ghost use Rattle.hv_options.specs.Commands.{draw_by, draw_line, explain_by, explain_line, file_rule};
 ghost use Rattle.hv_options.specs.Commands.{program_faults, program_line, run_by, serve_by, serve_line};
-ghost use Rattle.hv_options.specs.Commands.{trace_by, trace_line};
+ghost use Rattle.hv_options.specs.Commands.{trace_by, trace_line, with_audits, with_others};
 
 use crate::command_line::{VERSION, flag, is_given, refusal, run_command, script_argument};
 use crate::usage::{Command, Options, Usage};
@@ -38,24 +38,38 @@ pub fn command<'a, S: AsStr>(alloc: Global, words: &'a [S]) -> Result<Command<'a
 fn program_line<'a>(alloc: Global) -> Result<Line<'a>, AllocError>
     ensures { IfOk result (λ c. app_of c ≡ program_line) }
 {
-    let run = run_command(alloc)?;
-    let check = check_command(alloc)?;
-    let explain = explain_command(alloc)?;
-    let trace = trace_command(alloc)?;
-    let serve = serve_command(alloc)?;
-    let draw = draw_command(alloc)?;
-    let asm = asm_command(alloc)?;
-    Line::new(alloc, "hvpm")
+    let line = Line::new(alloc, "hvpm")
         .version(VERSION)
         .about("Runs a script of hypercalls and accesses on a model of Hyper-V's partition manager")
-        .subcommand_required(true)
-        .subcommand(run)?
-        .subcommand(check)?
-        .subcommand(explain)?
-        .subcommand(trace)?
-        .subcommand(serve)?
-        .subcommand(draw)?
-        .subcommand(asm)
+        .subcommand_required(true);
+    let line = with_audits(alloc, line)?;
+    with_others(alloc, line)
+}
+
+// Adds the commands that read a script, or an audit beside it.
+fn with_audits<'a>(alloc: Global, line: Line<'a>) -> Result<Line<'a>, AllocError>
+    ensures { IfOk result (λ c. app_of c ≡ with_audits (app_of line.entry)) }
+{
+    let run = run_command(alloc)?;
+    let line = line.subcommand(run)?;
+    let check = check_command(alloc)?;
+    let line = line.subcommand(check)?;
+    let explain = explain_command(alloc)?;
+    let line = line.subcommand(explain)?;
+    let trace = trace_command(alloc)?;
+    line.subcommand(trace)
+}
+
+// Adds the other commands.
+fn with_others<'a>(alloc: Global, line: Line<'a>) -> Result<Line<'a>, AllocError>
+    ensures { IfOk result (λ c. app_of c ≡ with_others (app_of line.entry)) }
+{
+    let serve = serve_command(alloc)?;
+    let line = line.subcommand(serve)?;
+    let draw = draw_command(alloc)?;
+    let line = line.subcommand(draw)?;
+    let asm = asm_command(alloc)?;
+    line.subcommand(asm)
 }
 
 fn check_command<'a>(alloc: Global) -> Result<Line<'a>, AllocError>
