@@ -3,7 +3,6 @@ use Rattle.std.proofs.Common.{◌≡◌, ℕ, ◌+◌, List, [], ◌∷◌, ◌+
 use Rattle.std.proofs.KnownBytes.{Appends-nil}
 use Rattle.std.proofs.lemmas.List.Elements.{All-cons, All-nil, All-push}
 use Rattle.hv_abi.specs.declared.frame.Frame.{Frame}
-use Rattle.hv_history.proofs.Elements.{as_many}
 use Rattle.hv_history.specs.Kept.{IsRun, Kept}
 use Rattle.hv_history.specs.Run.{AreElements, GoesOnAt, element, restart, start_of}
 use Rattle.hv_history.specs.declared.entry.Entry.{Entry}
@@ -17,7 +16,8 @@ use Rattle.hv_policy.specs.declared.reply.Reply.{Reply}
 use Rattle.hv_shared.specs.ByCaller.{receipts_by}
 use Rattle.hv_shared.specs.Pass.{receipt}
 use Rattle.hv_shared.specs.declared.receipts.Receipt.{Receipt}
-use Rattle.hv_threads.specs.Perform.{IsAccess, IsStopped, IsWhole}
+use Rattle.hv_threads.specs.Perform.{IsAccess, IsWhole}
+use Rattle.hv_threads.proofs.ActOutcomes.{elements_by, few_elements, part_of}
 use Rattle.hv_threads.proofs.OwnReceipts.{IsBy, own_entries, own_first, receipts-append}
 use Rattle.hv_explain.specs.Written.{HasWritten, HasWrittenElement, HasWrittenOne, HasWrittenUpTo, Telling, entry_of}
 use Rattle.hv_explain.proofs.WrittenLines.{told_then}
@@ -34,19 +34,6 @@ elements_push by frame [] now reply is goes =
     (ap (element by) is, subst (λ (f : Frame Global). GoesOnAt (start_of f + 1) reply) is goes, ap (λ (f : Frame Global). restart f (start_of f + 1)) is)
 elements_push by frame (e ∷ es) now reply is goes =
     (is.0, is.1, elements_push by (restart frame (start_of frame + 1)) es now reply is.2 goes)
-
-elements_by : (by : Caller) (frame : Frame Global) (es : List (Entry Global)) (now : Frame Global) → AreElements by frame es now → All (IsBy by) es
-elements_by by frame [] now is = All-nil (IsBy by)
-elements_by by frame (e ∷ es) now is = All-cons (IsBy by) e es (ap (λ x. x.by) is.0) (elements_by by (restart frame (start_of frame + 1)) es now is.2)
-
-few_elements : (by : Caller) (frame : Frame Global) (es : List (Entry Global)) (now : Frame Global) → AreElements by frame es now → length es < 4096
-few_elements by frame es now is = let many = as_many by frame es now is in omega arith
-
-part_of : (by : Caller) (frame : Frame Global) (es : List (Entry Global)) (now : Frame Global) → AreElements by frame es now → (n : ℕ) → IsStopped by (Hypercall frame) (receipts_by by n es)
-part_of by frame es now is n = record {
-  now = now;
-  elements = subst (λ (l : List (Entry Global)). AreElements by frame l now) (sym (own_entries by n es (elements_by by frame es now is))) is;
-}
 
 module _ (tells : Telling) (by : Caller) (old : Kept Global) (v : Option (List ℕ)) where
   -- some elements of a call were told, and `now` is the frame that is to be asked after them

@@ -22,16 +22,16 @@ use Rattle.hv_threads.specs.Acted.{HasActed, WasStopped}
 use Rattle.hv_threads.specs.Perform.{IsAccess, IsStopped, IsWhole}
 
 -- the elements of a call are by its caller, and fewer than there are start indices
-elements_by : (by : Caller) (frame : Frame Global) (es : List (Entry Global)) (now : Frame Global) → AreElements by frame es now → All (IsBy by) es
+pub elements_by : (by : Caller) (frame : Frame Global) (es : List (Entry Global)) (now : Frame Global) → AreElements by frame es now → All (IsBy by) es
 elements_by by frame [] now is = All-nil (IsBy by)
 elements_by by frame (e ∷ es) now is =
     All-cons (IsBy by) e es (ap (λ (event : Event Global). event.by) is.0) (elements_by by (restart frame (start_of frame + 1)) es now is.2)
 
-few_elements : (by : Caller) (frame : Frame Global) (es : List (Entry Global)) (now : Frame Global) → AreElements by frame es now → length es < 4096
+pub few_elements : (by : Caller) (frame : Frame Global) (es : List (Entry Global)) (now : Frame Global) → AreElements by frame es now → length es < 4096
 few_elements by frame es now is = let many = as_many by frame es now is in omega arith
 
 -- a part of a call
-part_of : (by : Caller) (frame : Frame Global) (es : List (Entry Global)) (now : Frame Global) → AreElements by frame es now → (n : ℕ) → IsStopped by (Hypercall frame) (receipts_by by n es)
+pub part_of : (by : Caller) (frame : Frame Global) (es : List (Entry Global)) (now : Frame Global) → AreElements by frame es now → (n : ℕ) → IsStopped by (Hypercall frame) (receipts_by by n es)
 part_of by frame es now is n = record {
   now = now;
   elements = subst (λ (l : List (Entry Global)). AreElements by frame l now) (sym (own_entries by n es (elements_by by frame es now is))) is;
