@@ -1,6 +1,4 @@
 // A teller that writes nothing.
-ghost use Rattle.hv_draw.specs.Drawn.{nothing};
-
 use hv_effect::Effect;
 use hv_explain::Teller;
 use hv_history::Kept;
