@@ -157,8 +157,6 @@ pub fn caller_vp<A: Allocator>(tree: &mut Partitions<A>, by: Caller) -> Result<&
 //
 // `owner` is the caller's partition, which has `count` children, and `relative` is the target as it stands to
 // it. The error is the first of the three rules that fails.
-// Inlined: calls for the own id in bench/embed.sh.
-#[inline(always)]
 fn target_in<'t, A: Allocator>(
     tree: &'t Partitions<A>,
     by: Caller,

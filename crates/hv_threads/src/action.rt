@@ -57,6 +57,8 @@ impl<L: Ledger, R: Wait, G: Gate> Driver<'_, L, R, G> {
     /// Performs one action of the pass's processor to its end: drives a hypercall, and calls for an access.
     ///
     /// `Err` says why the host refused an event; the pass has the receipts of those before it.
+    // Inlined: messages in bench/largest.sh.
+    #[inline(always)]
     pub fn drive(&self, pass: &mut Pass<L>, action: Action<Global>) -> Result<(), HostRefused>
         ensures performed { OnOk result (HasPerformed action pass.old pass.new) }
         ensures refused { OnErr result (HasBegun action pass.old pass.new) }
