@@ -28,7 +28,6 @@ static struct processor {
     hvpm_pages pages;
     uint8_t injected;
 } processors[1 + MOST];
-static uint32_t count;
 
 static void want(bool is_so) {
     if (!is_so) failed = true;
@@ -45,13 +44,10 @@ static void served(uint32_t status) {
 static void signal_event(const struct processor *from, uint32_t connection) {
     uint8_t vector;
     served(hvpm_signal_event(&machine, from->pages.of, connection, 0, &reply, NULL, 0));
-    const hvpm_effect effect = reply.effect;
-    for (uint32_t i = 0; i < count; i++) {
-        struct processor *at = &processors[i];
-        want(hvpm_pages_after(&machine, &at->pages, &effect) == HVPM_STATUS_OK);
-        while (hvpm_pages_vector(&machine, &at->pages, &vector) == HVPM_STATUS_OK && vector != 0)
-            at->injected = vector;
-    }
+    struct processor *at = &processors[reply.effect.partition == 1 ? 0 : 1 + reply.effect.vp];
+    want(hvpm_pages_after(&machine, &at->pages, &reply.effect) == HVPM_STATUS_OK);
+    while (hvpm_pages_vector(&machine, &at->pages, &vector) == HVPM_STATUS_OK && vector != 0)
+        at->injected = vector;
 }
 
 /* A guest takes its interrupt, and clears flag 0 of its SINT, in its page and without a call. */
@@ -105,7 +101,6 @@ static void set_up(uint32_t vps) {
         connect(root, root, of, vp);
         connect(root, of, root, MOST + vp);
     }
-    count = 1 + vps;
 }
 
 static void measure(uint32_t vps) {

@@ -297,7 +297,7 @@ HVPM_INLINE uint32_t hvpm_post_message(hvpm_machine *machine, hvpm_caller by, ui
     hvpm_put(input, connection, 4);
     hvpm_put(input + 8, type, 4);
     hvpm_put(input + 12, payload_size, 4);
-    for (size_t i = 0; i < payload_size && i < 240; i++) input[16 + i] = ((const uint8_t *)payload)[i];
+    if (payload_size != 0) __builtin_memcpy(input + 16, payload, payload_size < 240 ? payload_size : 240);
     return hvpm_call(machine, by, 0x5C, input, sizeof input, reply, line, line_size);
 }
 

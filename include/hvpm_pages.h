@@ -6,11 +6,11 @@
  * (TLFS 4.0, "Inter-Partition Communication"). Call these functions around each event. Each processor has an
  * hvpm_pages, to which `p` points:
  *
- *     hvpm_pages_before(&machine, p);                 // each p, before a post, EOM and HvSetVpRegisters
+ *     hvpm_pages_before(&machine, p);                 // before EOM: the p that writes it; before a post: each p
+ *                                                     // of the port's partition; before HvSetVpRegisters: its p
  *     hvpm_hypercall(&machine, ..., &reply, ...);     // the event that the guest exited for
  *     hvpm_pages_move(&machine, p, messages, flags);  // only after a write of SIMP or SIEFP
- *     hvpm_pages_after(&machine, p, &reply.effect);   // after each event: each p, or the one that the effect
- *                                                     // names
+ *     hvpm_pages_after(&machine, p, &reply.effect);   // after each event: the p that the effect names
  *     while (hvpm_pages_vector(&machine, p, &vector) == HVPM_STATUS_OK && vector != 0) inject(p, vector);
  *
  * All of one exit is one critical section: hold the lock of the handle until the last vector is injected.
@@ -77,7 +77,7 @@ HVPM_INLINE uint32_t hvpm_pages_make(hvpm_machine *machine, hvpm_pages *pages, e
  */
 HVPM_INLINE uint32_t hvpm_pages_before(hvpm_machine *machine, hvpm_pages *pages) {
     hvpm_reply reply;
-    for (uint32_t sint = 0; pages->messages && sint < 16; sint++) {
+    for (uint32_t sint = 0; pages->messages && pages->shown >> sint != 0; sint++) {
         if (!(pages->shown >> sint & 1) ||
             __atomic_load_n(&pages->messages[sint].type, __ATOMIC_SEQ_CST) != 0)
             continue;

@@ -52,9 +52,14 @@ static void *guest_memory(struct vcpu *vcpu, uint64_t address, size_t size) {
     return address < MEMORY && size <= MEMORY - address ? vcpu->memory + address : NULL;
 }
 
-static void before(void) {
-    for (struct vcpu *at = vcpus; at < vcpus + GUESTS; at++)
-        need(hvpm_pages_before(&machine, &at->pages) == HVPM_STATUS_OK, "a slot isn't cleared");
+/* The processor of a partition; NULL if it isn't a guest's. */
+static struct vcpu *vcpu_of(uint64_t partition) {
+    return partition >= 2 && partition < 2 + GUESTS ? &vcpus[partition - 2] : NULL;
+}
+
+/* Before EOM of a processor, and before a post to a port of its partition. */
+static void before(struct vcpu *at) {
+    if (at) need(hvpm_pages_before(&machine, &at->pages) == HVPM_STATUS_OK, "a slot isn't cleared");
 }
 
 static void move(struct vcpu *vcpu) {
@@ -72,13 +77,22 @@ static void move(struct vcpu *vcpu) {
  * A vector ends its HLT.
  */
 static void after(const hvpm_effect *effect) {
-    for (struct vcpu *at = vcpus; at < vcpus + GUESTS; at++) {
-        need(hvpm_pages_after(&machine, &at->pages, effect) == HVPM_STATUS_OK, "a page isn't up to date");
-        for (uint8_t v; hvpm_pages_vector(&machine, &at->pages, &v) == HVPM_STATUS_OK && v != 0;
-             at->is_halted = false)
-            printf("    inject 0x%02x at %" PRIu64 ".0%s\n", v, at->pages.of.partition,
-                   at->is_halted ? " and wake it" : "");
-    }
+    struct vcpu *at = vcpu_of(effect->partition);
+    if (!at) return;
+    need(hvpm_pages_after(&machine, &at->pages, effect) == HVPM_STATUS_OK, "a page isn't up to date");
+    for (uint8_t v; hvpm_pages_vector(&machine, &at->pages, &v) == HVPM_STATUS_OK && v != 0;
+         at->is_halted = false)
+        printf("    inject 0x%02x at %" PRIu64 ".0%s\n", v, at->pages.of.partition,
+               at->is_halted ? " and wake it" : "");
+}
+
+/* Frees what the receiver of a post freed in its page. The input begins with the id of the connection. */
+static void before_post(const struct vcpu *from, const uint8_t *input) {
+    hvpm_connection to;
+    uint32_t id;
+    memcpy(&id, input, sizeof id);
+    if (hvpm_peek_connection(&machine, from->pages.of.partition, id, &to) == HVPM_STATUS_OK)
+        before(vcpu_of(to.port_partition));
 }
 
 /*
@@ -92,6 +106,7 @@ static uint32_t hypercall(struct vcpu *vcpu, const hvpm_registers *at, hvpm_repl
     if (size != 0 && !from && hvpm_is_call((uint16_t)at->rcx))
         return *reply = (hvpm_reply){.result = 4}, HVPM_STATUS_OK;
     if (from) memcpy(input, from, size);
+    if (from && size >= 4 && (at->rcx & 0xFFFF) == 0x5C) before_post(vcpu, input);
     return hvpm_hypercall(&machine, vcpu->pages.of, at, input, from ? size : 0, reply, line, HVPM_LINE);
 }
 
@@ -101,7 +116,7 @@ static void handle(struct vcpu *vcpu, const struct step *exit) {
     uint32_t status, msr = (uint32_t)exit->rcx;
     hvpm_reply reply;
     char line[HVPM_LINE];
-    before();
+    if (exit->reason == WRMSR) before(vcpu);
     if (exit->reason == RDMSR)
         status = hvpm_read_msr_value(&machine, by, msr, &value, &reply, line, sizeof line);
     else if (exit->reason == WRMSR)

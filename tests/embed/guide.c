@@ -73,7 +73,7 @@ static void connect(void) {
 
 static void post(const char *text) {
     hvpm_reply reply;
-    before();
+    before(child);
     holds("a post",
           served(hvpm_post_message(&machine, root, 1, 7, text, (uint32_t)strlen(text), &reply, NULL, 0),
                  &reply));

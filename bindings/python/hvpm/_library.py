@@ -1,4 +1,5 @@
-"""Loads libhvpm.so.1, and calls it with numbers that fit."""
+"""Loads libhvpm.so.1 from the folder that HVPM_LIB names, or else where the loader finds it, and calls it with
+numbers that fit."""
 from __future__ import annotations
 
 import ctypes
@@ -13,16 +14,16 @@ UNSIGNED = (ctypes.c_uint8, ctypes.c_uint16, ctypes.c_uint32, ctypes.c_uint64)
 
 
 def _open() -> ctypes.CDLL:
+    folder = os.environ.get("HVPM_LIB")
+    if folder is not None:
+        return ctypes.CDLL(os.path.join(folder, FILE))
     try:
         return ctypes.CDLL(FILE)
     except OSError:
-        folder = os.environ.get("HVPM_LIB")
-        if folder is None:
-            raise ImportError(
-                f"the loader finds no {FILE}, and HVPM_LIB isn't set. Install the library, add its folder to "
-                f"LD_LIBRARY_PATH, or set HVPM_LIB to that folder"
-            ) from None
-    return ctypes.CDLL(os.path.join(folder, FILE))
+        raise ImportError(
+            f"the loader finds no {FILE}, and HVPM_LIB isn't set. Install the library, add its folder to "
+            f"LD_LIBRARY_PATH, or set HVPM_LIB to that folder"
+        ) from None
 
 
 @functools.lru_cache(maxsize=None)

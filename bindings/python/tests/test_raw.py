@@ -73,6 +73,7 @@ class Finding(unittest.TestCase):
         folder = os.path.dirname(next(line.split()[-1] for line in loaded if "libhvpm.so" in line))
         self.assertEqual(self.version(LD_LIBRARY_PATH=None, HVPM_LIB=folder), f"{hvpm.version()}\n")
         self.assertEqual(self.version(LD_LIBRARY_PATH=folder, HVPM_LIB=None), f"{hvpm.version()}\n")
+        self.assertEqual(self.version(LD_LIBRARY_PATH="/nowhere", HVPM_LIB=folder), f"{hvpm.version()}\n")
 
     def test_a_library_that_is_missing_is_named(self):
         with unittest.mock.patch.object(_library, "FILE", "libhvpm-missing.so.1"):

@@ -1,5 +1,5 @@
-//! Finds the library hvpm: first by pkg-config, then in the folder that HVPM_LIB names. A crate that depends
-//! on this one reads the folder in DEP_HVPM_LIBDIR.
+//! Finds the library hvpm: in the folder that HVPM_LIB names, or else by pkg-config. A crate that depends on
+//! this one reads the folder in DEP_HVPM_LIBDIR.
 
 use std::env;
 use std::path::{Path, PathBuf};
@@ -39,7 +39,7 @@ fn main() {
         println!("cargo::rerun-if-env-changed={name}");
     }
     let named = env::var_os("HVPM_LIB").map(PathBuf::from);
-    let linked = match installed().or(named) {
+    let linked = match named.or_else(installed) {
         Some(folder) => link(&folder),
         None => {
             Err("pkg-config finds no library hvpm, and HVPM_LIB isn't set. Install the library, and add \

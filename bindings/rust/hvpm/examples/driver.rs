@@ -74,7 +74,8 @@ fn access(machine: &mut Machine, by: Caller, words: &[&str]) -> Result<Reply, En
 fn boot(words: &[&str]) -> Result<Machine, End> {
     let [pages, pool, vps, mask] =
         [number(words[0])?, number(words[1])?, number(words[2])?, number(words[3])?];
-    Ok(Machine::boot(Config { mask, pages: pages as u32, pool: pool as u32, vps: vps as u32 })?)
+    let config = Config { mask, pages: pages as u32, pool: pool as u32, vps: vps as u32 };
+    Ok(Machine::boot(config)?.audited())
 }
 
 /// The audit of a script.

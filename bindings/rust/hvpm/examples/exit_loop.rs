@@ -163,7 +163,8 @@ fn run(host: &Mutex<Host>, wake: &Condvar, vp: u32, exits: [&[(Exit, Entry)]; 2]
 
 /// A machine with a port for messages at SINT 2 of processor 1, and connection 1 to it.
 fn boot() -> Result<Machine, Status> {
-    let mut machine = Machine::boot(Config { mask: 0xf7_0000_0044, pages: 32, pool: 20, vps: 2 })?;
+    let config = Config { mask: 0xf7_0000_0044, pages: 32, pool: 20, vps: 2 };
+    let mut machine = Machine::boot(config)?.audited();
     let (root, partition, r#type) = (Caller::new(1, 0), PartitionId::ROOT, PortType::Messages);
     let port = Port {
         partition,

@@ -1,6 +1,6 @@
 //! The machine: boot, hypercalls as a guest makes them, and accesses.
 
-use crate::reply::{Output, Reply, Run};
+use crate::reply::{Output, Reply, Run, line_of};
 use crate::status::{Status, done};
 use crate::{Caller, Sint};
 use core::ffi::c_char;
@@ -49,6 +49,7 @@ impl Registers {
 /// ```
 pub struct Machine {
     pub(crate) handle: sys::hvpm_machine,
+    is_audited: bool,
 }
 
 // SAFETY: the library keeps nothing of the thread that calls it. Each function here borrows the machine for
@@ -61,10 +62,17 @@ impl Machine {
     /// isn't valid.
     pub fn boot(config: Config) -> Result<Machine, Status> {
         let Config { mask, pages, pool, vps } = config;
-        let mut machine = Machine { handle: sys::hvpm_machine { live: false, events: 0, at: null_mut() } };
+        let handle = sys::hvpm_machine { live: false, events: 0, at: null_mut() };
+        let mut machine = Machine { handle, is_audited: false };
         // SAFETY: the handle is empty, and both pointers lead to values of their types.
         done(unsafe { sys::hvpm_boot(&mut machine.handle, &sys::hvpm_config { mask, pages, pool, vps }) })?;
         Ok(machine)
+    }
+
+    /// Returns the machine with an audit line in each reply from now on. A line takes as long as the event.
+    pub fn audited(mut self) -> Machine {
+        self.is_audited = true;
+        self
     }
 
     /// Returns the number of events so far, served or refused.
@@ -72,14 +80,19 @@ impl Machine {
         self.handle.events
     }
 
-    /// Executes an event: `call` gets the handle, a reply, and the buffer for a line with its size.
+    /// Executes an event: `call` gets the handle, a reply, and the buffer for a line, if any, with its size.
     pub(crate) fn take(
         &mut self,
         call: impl FnOnce(*mut sys::hvpm_machine, *mut sys::hvpm_reply, *mut c_char, usize) -> u32,
     ) -> Result<Reply, Status> {
         let mut reply = Reply::new();
-        let line = reply.line.as_mut_ptr().cast();
-        done(call(&mut self.handle, &mut reply.raw, line, sys::HVPM_LINE))?;
+        if !self.is_audited {
+            done(call(&mut self.handle, &mut reply.raw, null_mut(), 0))?;
+            return Ok(reply);
+        }
+        let mut line = [0u8; sys::HVPM_LINE];
+        done(call(&mut self.handle, &mut reply.raw, line.as_mut_ptr().cast(), line.len()))?;
+        reply.line = line_of(&line[..reply.raw.line_len as usize]);
         Ok(reply)
     }
 
@@ -220,7 +233,8 @@ mod tests {
     #[test]
     fn a_machine_takes_no_more_events_than_are_counted() {
         let by = Caller::new(1, 0);
-        let mut machine = Machine::boot(Config { mask: 0, pages: 32, pool: 12, vps: 1 }).expect("it boots");
+        let config = Config { mask: 0, pages: 32, pool: 12, vps: 1 };
+        let mut machine = Machine::boot(config).expect("it boots").audited();
         machine.handle.events = u64::MAX - 1;
         let last = machine.take_interrupt(by).expect("the last event is taken");
         assert_eq!(last.line(), "18446744073709551615 1.0 interrupt ok 00\n");

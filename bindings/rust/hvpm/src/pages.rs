@@ -8,16 +8,16 @@
 //! # let mut machine = Machine::boot(Config { mask: 4, pages: 8, pool: 8, vps: 1 })?;
 //! # fn inject(_: Caller, _: u8) {}
 //! let mut p = Pages::new(by);
-//! p.before(&mut machine)?; // before a post, EOM, and HvSetVpRegisters
+//! p.before(&mut machine)?; // EOM: its processor; a post: each one of the port's partition
 //! let reply = machine.hypercall(by, call, &[])?; // what the guest exited for, or write_msr
-//! p.after(&mut machine, &reply)?; // after each event, for each processor
+//! p.after(&mut machine, &reply)?; // after each event, for the processor that its effect names
 //! while let Some(vector) = p.vector(&mut machine)? {
 //!     inject(p.of(), vector);
 //! }
 //! # Ok::<(), Status>(())
 //! ```
 
-use crate::reply::Reply;
+use crate::reply::{Reply, line_of};
 use crate::status::{Status, done};
 use crate::{Access, Caller, Machine};
 use alloc::boxed::Box;
@@ -151,7 +151,6 @@ unsafe extern "C" fn tell(
     // line of as many bytes as the reply says.
     let (record, raw) = unsafe { (&mut *context.cast::<Recorder<'_>>(), *reply) };
     let line = unsafe { slice::from_raw_parts(line.cast::<u8>(), raw.line_len as usize) };
-    let mut reply = Reply { raw, ..Reply::new() };
-    reply.line[..line.len()].copy_from_slice(line);
+    let reply = Reply { raw, line: line_of(line) };
     record(Record { by: Caller::of(by), access: Access::of(event, number, value), reply: &reply });
 }

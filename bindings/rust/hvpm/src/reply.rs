@@ -1,6 +1,8 @@
 //! Replies to events.
 
 use crate::Effect;
+use alloc::borrow::ToOwned;
+use alloc::string::String;
 use core::fmt;
 use hvpm_sys as sys;
 
@@ -44,7 +46,12 @@ pub enum Answer {
 #[derive(Clone)]
 pub struct Reply {
     pub(crate) raw: sys::hvpm_reply,
-    pub(crate) line: [u8; sys::HVPM_LINE],
+    pub(crate) line: String,
+}
+
+/// Returns an audit line as text.
+pub(crate) fn line_of(bytes: &[u8]) -> String {
+    core::str::from_utf8(bytes).expect("a line is ASCII").to_owned()
 }
 
 const NOTHING: sys::hvpm_effect = sys::hvpm_effect {
@@ -75,7 +82,7 @@ impl Reply {
             output: [0; 256],
             effect: NOTHING,
         };
-        Reply { raw, line: [0; sys::HVPM_LINE] }
+        Reply { raw, line: String::new() }
     }
 
     /// Returns how the event was answered.
@@ -120,9 +127,10 @@ impl Reply {
         &self.raw.output[..self.raw.output_len as usize]
     }
 
-    /// Returns the event's audit line, with its line feed.
+    /// Returns the event's audit line, with its line feed. It is empty unless the machine is
+    /// [audited](crate::Machine::audited), and for [`crate::Machine::run`].
     pub fn line(&self) -> &str {
-        core::str::from_utf8(&self.line[..self.raw.line_len as usize]).expect("a line is ASCII")
+        &self.line
     }
 
     /// Returns what the event changed: messages, event flags, vectors, pages and processors.

@@ -19,7 +19,7 @@ struct Audited {
 impl Audited {
     fn boot(pages: u32, pool: u32) -> Audited {
         let config = Config { mask: 0xf7_0000_0044, pages, pool, vps: 1 };
-        Audited { machine: Machine::boot(config).expect("it boots"), audit: String::new() }
+        Audited { machine: Machine::boot(config).expect("it boots").audited(), audit: String::new() }
     }
 
     fn take(&mut self, take: impl FnOnce(&mut Machine) -> Result<Reply, Status>) -> Answer {

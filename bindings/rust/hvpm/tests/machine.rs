@@ -43,7 +43,7 @@ fn numbers_arrive_whole() {
 
 #[test]
 fn an_msr_is_read_as_a_number() -> Result<(), Status> {
-    let mut machine = Machine::boot(CONFIG)?;
+    let mut machine = Machine::boot(CONFIG)?.audited();
     let sint = machine.read_msr_value(ROOT, 0x4000_0093)?;
     assert_eq!(
         (sint.value, sint.reply.line()),
@@ -64,7 +64,7 @@ fn the_highest_vector_is_taken_first() {
 
 #[test]
 fn a_call_continues_at_the_next_element() -> Result<(), Status> {
-    let mut machine = Machine::boot(CONFIG)?;
+    let mut machine = Machine::boot(CONFIG)?.audited();
     let call = Registers { rcx: 2 << 32 | 0x49, rdx: 0, r8: 8 };
     let reply = machine.hypercall(ROOT, call, &[1])?;
     assert_eq!(reply.line(), "1 1.0 call 0000000200000049 more 0000000100000000 0000000000000000\n");
@@ -80,7 +80,7 @@ fn a_call_continues_at_the_next_element() -> Result<(), Status> {
 
 #[test]
 fn rdx_and_r8_are_the_input_of_a_fast_call() -> Result<(), Status> {
-    let mut machine = Machine::boot(CONFIG)?;
+    let mut machine = Machine::boot(CONFIG)?.audited();
     let reply = machine.hypercall(ROOT, Registers { rcx: 0x1004E, rdx: 7, r8: 1 }, &[])?;
     assert_eq!(reply.line(), "1 1.0 call 000000000001004e denied 000000000000000d P9\n");
     assert_eq!(
@@ -95,7 +95,7 @@ fn rdx_and_r8_are_the_input_of_a_fast_call() -> Result<(), Status> {
 /// Served, denied, and a fault.
 #[test]
 fn a_reply_has_a_status_and_a_rule() -> Result<(), Status> {
-    let mut machine = Machine::boot(CONFIG)?;
+    let mut machine = Machine::boot(CONFIG)?.audited();
     let call = |rcx| Registers { rcx, rdx: 0, r8: 0 };
     let served = machine.hypercall(ROOT, call(0x46), &[])?;
     assert_eq!((served.is_served(), served.status(), served.rule()), (true, Some(HvStatus(0)), None));
@@ -117,7 +117,7 @@ fn a_reply_has_a_status_and_a_rule() -> Result<(), Status> {
 
 #[test]
 fn elements_are_taken_in_a_run() -> Result<(), Status> {
-    let mut machine = Machine::boot(CONFIG)?;
+    let mut machine = Machine::boot(CONFIG)?.audited();
     let call = Registers { rcx: 3 << 32 | 0x49, rdx: 0, r8: 0 };
     let mut outputs = [0xA5; 31];
     let run = machine.run(ROOT, call, &[1], &mut outputs)?;
@@ -178,4 +178,14 @@ fn events_are_lines_of_a_script() {
     for (access, words) in accesses {
         assert_eq!(access_line(by, access), Ok(format!("2.1 {words}\n")));
     }
+}
+
+#[test]
+fn a_line_is_made_only_where_it_is_asked_for() -> Result<(), Status> {
+    let mut machine = Machine::boot(CONFIG)?;
+    let read = |machine: &mut Machine| machine.read_msr(ROOT, 0x4000_0002);
+    assert_eq!(read(&mut machine)?.line(), "");
+    let mut machine = machine.audited();
+    assert_eq!(read(&mut machine)?.line(), "2 1.0 rdmsr 40000002 ok 0000000000000000\n");
+    Ok(())
 }

@@ -46,7 +46,7 @@ pub fn is_fault(reply: Result<Reply, Status>, event: &str, rule: u32) {
 /// A machine after 11 events: SINT 2 of processor 1.0 shows a message and raised 0x32, and flag 5 of SINT 3
 /// is set and raised 0x33.
 pub fn set_up() -> Machine {
-    let mut machine = Machine::boot(CONFIG).expect("it boots");
+    let mut machine = Machine::boot(CONFIG).expect("it boots").audited();
     let msrs: [(u32, u64); 5] =
         [(0x4000_0080, 1), (0x4000_0082, 1), (0x4000_0083, 1), (0x4000_0092, 0x32), (0x4000_0093, 0x33)];
     for (number, (msr, value)) in (1..).zip(msrs) {
@@ -91,7 +91,7 @@ pub fn has(reply: Result<Reply, Status>, effect: Effect) {
 
 /// A root, and partition 2 with processor 0 and 12 pages, from 20 on. Its registers are at their start.
 pub fn with_child() -> Result<Machine, Status> {
-    let mut machine = Machine::boot(Config { mask: 0xf7_0000_0044, pages: 64, pool: 16, vps: 1 })?;
+    let mut machine = Machine::boot(Config { mask: 0xf7_0000_0044, pages: 64, pool: 16, vps: 1 })?.audited();
     let pages: Vec<u64> = (20..32).collect();
     let child = machine.create_partition(ROOT, 0)?;
     assert_eq!((child.value, child.reply.effect()), (Some(CHILD), Effect::Nothing));
