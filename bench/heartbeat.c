@@ -65,7 +65,7 @@ static void heartbeat(struct processor *guest, uint32_t vp) {
 }
 
 static void turn_on(struct processor *at, hvpm_caller of) {
-    const uint32_t msrs[] = {0x40000080, 0x40000082, 0x40000083, 0x40000090 + SINT};
+    const uint32_t msrs[] = {HVPM_MSR_SCONTROL, HVPM_MSR_SIEFP, HVPM_MSR_SIMP, HVPM_MSR_SINT0 + SINT};
     const uint64_t values[] = {1, 1, 1, VECTOR};
     memset(at, 0, sizeof *at);
     at->pages.of = of;

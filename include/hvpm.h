@@ -44,6 +44,8 @@
 #include <stddef.h>
 #include <stdint.h>
 
+#include "hvpm_names.h"
+
 #if defined HVPM_NO_INLINE
 #undef HVPM_INLINE
 #define HVPM_INLINE extern

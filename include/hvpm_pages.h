@@ -30,9 +30,11 @@ typedef struct hvpm_slot {
     uint32_t type;     /* message type; 0 if the slot is free. The guest writes 0 to free it */
     uint8_t size;      /* number of bytes of the payload */
     uint8_t flags;     /* bit 0: MessagePending */
-    uint8_t rest[250]; /* the port's id at byte 8 of the slot, and the payload from byte 16 on */
+    uint8_t zero[2];
+    uint64_t port;     /* id of the port through which the message came */
+    uint8_t payload[240];
 } hvpm_slot;
-HVPM_HOLDS(sizeof(hvpm_slot) == 256 && offsetof(hvpm_slot, flags) == 5);
+HVPM_HOLDS(sizeof(hvpm_slot) == 256 && offsetof(hvpm_slot, flags) == 5 && offsetof(hvpm_slot, payload) == 16);
 
 /*
  * The pages of a processor. Initialize it with zeros, then set `of`. To record the events that these
@@ -104,7 +106,8 @@ HVPM_INLINE uint32_t hvpm_pages_show(hvpm_machine *machine, hvpm_pages *pages, u
         memcpy(&type, bytes, sizeof type);
         if (type != 0) {
             slot->size = bytes[4];
-            memcpy(slot->rest, bytes + 6, sizeof slot->rest);
+            memcpy(&slot->port, bytes + 8, sizeof slot->port);
+            memcpy(slot->payload, bytes + 16, sizeof slot->payload);
             /* Atomic: the guest may still look for MessagePending of the message that it freed. */
             __atomic_store_n(&slot->flags, bytes[5], __ATOMIC_RELAXED);
         }

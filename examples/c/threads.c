@@ -17,7 +17,7 @@
 #include <stdlib.h>
 #include <string.h>
 
-enum { THREADS = 8, MSR_EOM = 0x40000084 };
+enum { THREADS = 8 };
 
 /* All of it is the lock's: a thread touches it only while it has the lock. */
 static struct {
@@ -69,7 +69,7 @@ static void act(hvpm_caller by, uint32_t pick) {
     case 0: hypercall(by, 0x5C, 0, post, sizeof post); return;
     case 1: hypercall(by, 0x1005D, 8 + (pick >> 8 & 7) + ((uint64_t)(pick >> 16 & 7) << 32), NULL, 0); return;
     case 2: hypercall(by, 0x46, 0, NULL, 0); return;
-    case 3: write_msr(by, MSR_EOM, 0); return;
+    case 3: write_msr(by, HVPM_MSR_EOM, 0); return;
     case 4: HAPPEN("slot 2", hvpm_read_slot(machine, by, 2, &reply, line, sizeof line)); return;
     case 5: HAPPEN("clearslot 2", hvpm_clear_slot(machine, by, 2, &reply, line, sizeof line)); return;
     case 6: HAPPEN("flags 3", hvpm_read_flags(machine, by, 3, &reply, line, sizeof line)); return;
@@ -78,7 +78,7 @@ static void act(hvpm_caller by, uint32_t pick) {
         HAPPEN(text, hvpm_clear_flag(machine, by, 3, (uint16_t)(pick >> 16 & 7), &reply, line, sizeof line));
         return;
     case 8:
-        HAPPEN("rdmsr 1073741954", hvpm_read_msr(machine, by, 0x40000082, &reply, line, sizeof line));
+        HAPPEN("rdmsr 1073741954", hvpm_read_msr(machine, by, HVPM_MSR_SIEFP, &reply, line, sizeof line));
         return;
     default: HAPPEN("interrupt", hvpm_take_interrupt(machine, by, &reply, line, sizeof line)); return;
     }
@@ -122,11 +122,11 @@ static void put_number(uint8_t *at, uint64_t value, size_t len) {
  * flags there, with connections.
  */
 static void set_up(hvpm_caller by) {
-    write_msr(by, 0x40000080, 1);
-    write_msr(by, 0x40000082, 1);
-    write_msr(by, 0x40000083, 1);
-    write_msr(by, 0x40000092, 0x30 + by.vp);
-    write_msr(by, 0x40000093, 0x40 + by.vp);
+    write_msr(by, HVPM_MSR_SCONTROL, 1);
+    write_msr(by, HVPM_MSR_SIEFP, 1);
+    write_msr(by, HVPM_MSR_SIMP, 1);
+    write_msr(by, HVPM_MSR_SINT2, 0x30 + by.vp);
+    write_msr(by, HVPM_MSR_SINT3, 0x40 + by.vp);
     for (uint32_t type = 1; type <= 2; type++) {
         const uint32_t id = by.vp + 8 * (type - 1);
         uint8_t port[48] = {0}, connection[36] = {0};

@@ -14,7 +14,6 @@ enum {
     GUESTS = 2, PAGE = 4096, INPUT = 0x0000, MESSAGES = 0x1000, FLAGS = 0x2000, MEMORY = 0x3000,
     SINT = 2, FLAG = 13
 };
-enum { SCONTROL = 0x40000080, SVERSION, SIEFP, SIMP, EOM, SINT2 = 0x40000092 };
 
 /*
  * What a guest does in its memory, if anything, and how it exits then.
@@ -66,7 +65,8 @@ static void move(struct vcpu *vcpu) {
     void *at[2] = {NULL, NULL};
     uint64_t value;
     for (size_t i = 0; i < 2; i++)
-        if (hvpm_peek_msr(&machine, vcpu->pages.of, i == 0 ? SIMP : SIEFP, &value) == HVPM_STATUS_OK &&
+        if (hvpm_peek_msr(&machine, vcpu->pages.of, i == 0 ? HVPM_MSR_SIMP : HVPM_MSR_SIEFP, &value) ==
+                HVPM_STATUS_OK &&
             value & 1)
             at[i] = guest_memory(vcpu, value & ~UINT64_C(4095), PAGE);
     need(hvpm_pages_move(&machine, &vcpu->pages, at[0], at[1]) == HVPM_STATUS_OK, "a page isn't moved");
@@ -106,7 +106,7 @@ static uint32_t hypercall(struct vcpu *vcpu, const hvpm_registers *at, hvpm_repl
     if (size != 0 && !from && hvpm_is_call((uint16_t)at->rcx))
         return *reply = (hvpm_reply){.result = 4}, HVPM_STATUS_OK;
     if (from) memcpy(input, from, size);
-    if (from && size >= 4 && (at->rcx & 0xFFFF) == 0x5C) before_post(vcpu, input);
+    if (from && size >= 4 && (at->rcx & 0xFFFF) == HVPM_CALL_POST_MESSAGE) before_post(vcpu, input);
     return hvpm_hypercall(&machine, vcpu->pages.of, at, input, from ? size : 0, reply, line, HVPM_LINE);
 }
 
@@ -145,7 +145,7 @@ static void take(uint8_t *memory, const char *text) {
     hvpm_slot *slot = (hvpm_slot *)(void *)(memory + MESSAGES) + SINT;
     uint8_t *flags = memory + FLAGS + 256 * SINT + FLAG / 8;
     (void)text;
-    printf("    it reads \"%.*s\"", slot->size, (const char *)slot->rest + 10);
+    printf("    it reads \"%.*s\"", slot->size, (const char *)slot->payload);
     __atomic_store_n(&slot->type, 0, __ATOMIC_SEQ_CST);
     printf(", MessagePending is %d", __atomic_load_n(&slot->flags, __ATOMIC_SEQ_CST) & 1);
     printf(", flag %d is %d\n", FLAG,
@@ -153,22 +153,23 @@ static void take(uint8_t *memory, const char *text) {
 }
 
 static const struct step receiver[] = {
-    {"reads its SynIC's version", RDMSR, .rcx = SVERSION},
-    {"turns its SynIC on", WRMSR, .rcx = SCONTROL, .rdx = 1},
-    {"turns its message page on", WRMSR, .rcx = SIMP, .rdx = MESSAGES | 1},
-    {"turns its event flags page on", WRMSR, .rcx = SIEFP, .rdx = FLAGS | 1},
-    {"aims SINT 2 at vector 5, which is reserved", WRMSR, .rcx = SINT2, .rdx = 5},
-    {"aims SINT 2 at vector 0x30", WRMSR, .rcx = SINT2, .rdx = 0x30},
+    {"reads its SynIC's version", RDMSR, .rcx = HVPM_MSR_SVERSION},
+    {"turns its SynIC on", WRMSR, .rcx = HVPM_MSR_SCONTROL, .rdx = 1},
+    {"turns its message page on", WRMSR, .rcx = HVPM_MSR_SIMP, .rdx = MESSAGES | 1},
+    {"turns its event flags page on", WRMSR, .rcx = HVPM_MSR_SIEFP, .rdx = FLAGS | 1},
+    {"aims SINT 2 at vector 5, which is reserved", WRMSR, .rcx = HVPM_MSR_SINT2, .rdx = 5},
+    {"aims SINT 2 at vector 0x30", WRMSR, .rcx = HVPM_MSR_SINT2, .rdx = 0x30},
     {"waits", .reason = HLT},
-    {"takes what it got, and writes EOM", WRMSR, .rcx = EOM, .use = take},
+    {"takes what it got, and writes EOM", WRMSR, .rcx = HVPM_MSR_EOM, .use = take},
     {"takes the other message, and waits", HLT, .use = take},
 };
 static const struct step sender[] = {
-    {"posts a message", HYPERCALL, .rcx = 0x5C, .rdx = INPUT, .use = write_message, .text = "first"},
-    {"posts another, which waits", HYPERCALL, .rcx = 0x5C, .rdx = INPUT, .use = write_message,
-     .text = "second"},
+    {"posts a message", HYPERCALL, .rcx = HVPM_CALL_POST_MESSAGE, .rdx = INPUT,
+     .use = write_message, .text = "first"},
+    {"posts another, which waits", HYPERCALL, .rcx = HVPM_CALL_POST_MESSAGE, .rdx = INPUT,
+     .use = write_message, .text = "second"},
     {"signals an event flag, by a fast call", HYPERCALL, .rcx = 0x1005D, .rdx = HVPM_PORT_EVENTS},
-    {"posts what isn't in its memory", HYPERCALL, .rcx = 0x5C, .rdx = MEMORY},
+    {"posts what isn't in its memory", HYPERCALL, .rcx = HVPM_CALL_POST_MESSAGE, .rdx = MEMORY},
     {"creates a partition, which it may not", HYPERCALL, .rcx = 0x40, .rdx = INPUT},
     {"waits", .reason = HLT},
 };

@@ -7,10 +7,7 @@
 #include <stdio.h>
 #include <stdlib.h>
 
-enum {
-    MEMORY = 0x10000, CODE = 0x5000, INPUT = 0x1000, OUTPUT = 0x2000, MESSAGES = 0x3000, FLAGS = 0x4000,
-    MSR_EOM = 0x40000084
-};
+enum { MEMORY = 0x10000, CODE = 0x5000, INPUT = 0x1000, OUTPUT = 0x2000, MESSAGES = 0x3000, FLAGS = 0x4000 };
 
 static uint8_t guest[MEMORY] __attribute__((aligned(4096))), roots[2][4096] __attribute__((aligned(4096)));
 static hvpm_caller injected_at;
@@ -93,8 +90,8 @@ static void identify(hvpm_pages *vcpu) {
 
 static void turn_on(hvpm_pages *vcpu) {
     holds("SCONTROL", write_msr(vcpu, 0x40000080, 1));
-    holds("SIMP", write_msr(vcpu, MSR_SIMP, MESSAGES | 1));
-    holds("SIEFP", write_msr(vcpu, MSR_SIEFP, FLAGS | 1));
+    holds("SIMP", write_msr(vcpu, HVPM_MSR_SIMP, MESSAGES | 1));
+    holds("SIEFP", write_msr(vcpu, HVPM_MSR_SIEFP, FLAGS | 1));
     holds("SINT2", write_msr(vcpu, 0x40000092, 0xF3));
 }
 
@@ -102,10 +99,10 @@ static void turn_on(hvpm_pages *vcpu) {
 static void take(hvpm_pages *vcpu, const char *text, bool is_pending) {
     hvpm_slot *slot = (hvpm_slot *)(void *)(guest + MESSAGES) + 2;
     holds(text, interrupted(vcpu, 0xF3) && slot->type == 7 && slot->size == strlen(text));
-    holds("its text", memcmp(slot->rest + 10, text, strlen(text)) == 0);
+    holds("its text", memcmp(slot->payload, text, strlen(text)) == 0);
     slot->type = 0;
     holds("MessagePending", (slot->flags & 1) == is_pending);
-    if (is_pending) holds("EOM", write_msr(vcpu, MSR_EOM, 0));
+    if (is_pending) holds("EOM", write_msr(vcpu, HVPM_MSR_EOM, 0));
 }
 
 int main(void) {

@@ -262,7 +262,7 @@ static bool take_message(struct processor *self, uint32_t sint) {
     uint8_t payload[240];
     const uint32_t size = payload_of(number, payload);
     holds("messages come once, in order", type == 1 + (uint32_t)number % 1000 && slot->size == size);
-    holds("a payload is whole", memcmp(slot->rest + 10, payload, size) == 0);
+    holds("a payload is whole", memcmp(slot->payload, payload, size) == 0);
     __atomic_store_n(&self->got[sint], number + 1, __ATOMIC_RELEASE);
     __atomic_exchange_n(&slot->type, 0, __ATOMIC_SEQ_CST);
     return __atomic_load_n(&slot->flags, __ATOMIC_SEQ_CST) & 1;
@@ -339,7 +339,7 @@ static void message_cases(void) {
     memset(slot_of(self, 0), 0xFF, PAGE);
     write_page(self, 0x40000083, PAGE * 3 | 1);
     holds("a page begins with what is shown, and is zero else",
-          slot_of(self, 0)->type == 0 && slot_of(self, 15)->rest[249] == 0);
+          slot_of(self, 0)->type == 0 && slot_of(self, 15)->payload[239] == 0);
     gets("the first of two, in a new page", self, 2, true);
     write_page(self, 0x40000083, PAGE * 3 | 3);
     holds("one that stays isn't written", slot_of(self, 2)->type == 0);

@@ -31,6 +31,7 @@ from .machine import (
     is_call,
     is_msr,
 )
+from .numbers import Call, HvStatusNumber, Msr, Privilege, Register, RuleNumber
 from .pages import Pages
 from .replies import (
     Answer,
@@ -50,8 +51,9 @@ from .replies import (
 )
 
 __all__ = [
-    "ANY_VP", "SELF", "Access", "Answer", "Balance", "Caller", "Connection", "Error", "HvStatus", "Life",
-    "Machine", "Pages", "Partition", "Port", "PortType", "Property", "Reply", "Rule", "Run", "Status",
+    "ANY_VP", "SELF", "Access", "Answer", "Balance", "Call", "Caller", "Connection", "Error", "HvStatus",
+    "HvStatusNumber", "Life", "Machine", "Msr", "Pages", "Partition", "Port", "PortType", "Privilege",
+    "Property", "Register", "Reply", "Rule", "RuleNumber", "Run", "Status",
     "access_line", "boot_line", "effect", "hv_status_name", "hypercall_line", "is_call", "is_msr", "next",
     "pages", "rule_name", "rule_sentence", "serve", "status_name", "version",
 ]

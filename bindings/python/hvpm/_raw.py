@@ -191,7 +191,9 @@ class hvpm_slot(Structure):
         ("type", c_uint32),
         ("size", c_uint8),
         ("flags", c_uint8),
-        ("rest", c_uint8 * 250),
+        ("zero", c_uint8 * 2),
+        ("port", c_uint64),
+        ("payload", c_uint8 * 240),
     ]
 
 

@@ -191,7 +191,9 @@ pub struct hvpm_slot {
     pub type_: u32,
     pub size: u8,
     pub flags: u8,
-    pub rest: [u8; 250],
+    pub zero: [u8; 2],
+    pub port: u64,
+    pub payload: [u8; 240],
 }
 
 #[repr(C)]
@@ -241,7 +243,7 @@ const _: () = assert!(size_of::<hvpm_port>() == 40 && offset_of!(hvpm_port, peer
 const _: () = assert!(size_of::<hvpm_connection>() == 32 && offset_of!(hvpm_connection, port_partition) == 16 && offset_of!(hvpm_connection, type_) == 28);
 const _: () = assert!(size_of::<hvpm_reply>() == 360 && offset_of!(hvpm_reply, result) == 8 && offset_of!(hvpm_reply, output) == 28 && offset_of!(hvpm_reply, effect) == 288);
 const _: () = assert!(size_of::<hvpm_effect>() == 72 && offset_of!(hvpm_effect, raised) == 24 && offset_of!(hvpm_effect, port) == 64);
-const _: () = assert!(size_of::<hvpm_slot>() == 256 && offset_of!(hvpm_slot, flags) == 5);
+const _: () = assert!(size_of::<hvpm_slot>() == 256 && offset_of!(hvpm_slot, flags) == 5 && offset_of!(hvpm_slot, payload) == 16);
 
 unsafe extern "C" {
     pub fn hvpm_boot(machine: *mut hvpm_machine, config: *const hvpm_config) -> u32;
