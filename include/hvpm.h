@@ -349,14 +349,8 @@ HVPM_INLINE uint32_t hvpm_take_interrupt(hvpm_machine *machine, hvpm_caller by, 
  * The other pointers receive the call's output if it is served. Otherwise what they point to is unchanged.
  *
  * The four rep calls execute one element of `count`, the one at index `start`. Begin with 0, and continue
- * with `reply->next` while the kind is HVPM_REPLY_MORE:
- *
- *     uint16_t at = 0;
- *     do {
- *         if (hvpm_deposit_memory(&machine, by, child, pages, 5, at, &reply, NULL, 0) != HVPM_STATUS_OK)
- *             return 1;
- *         at = (uint16_t)reply.next;
- *     } while (reply.kind == HVPM_REPLY_MORE);
+ * with `reply->next` while the kind is HVPM_REPLY_MORE. Each of these calls encodes the whole list: for a
+ * long list without audit lines, call the function of "Lists" below.
  */
 
 /* HV_PARTITION_ID_SELF. In a hypercall, this partition id means the caller's own partition. */
@@ -477,6 +471,38 @@ HVPM_INLINE uint32_t hvpm_create_port(hvpm_machine *machine, hvpm_caller by, con
 HVPM_INLINE uint32_t hvpm_connect_port(hvpm_machine *machine, hvpm_caller by,
                                        const hvpm_connection *connection, hvpm_reply *reply, char *line,
                                        size_t line_size);
+
+/* ---- Lists ---- */
+
+/*
+ * The four rep calls for lists of any length, by hvpm_run() and without audit lines. Each element is an event
+ * of its own. `*made` receives how many elements were served, from the first on, and `reply` is that of the
+ * last element executed. If `*made` is less than `count`,
+ *
+ * - a rule refused the next element: `reply->kind` is HVPM_REPLY_DENIED, and `reply->rule` names it;
+ * - or the machine stopped there, as hvpm_run() does: call the function again with the rest.
+ *
+ * P5 refuses a list without elements.
+ */
+
+/* HvDepositMemory: moves the caller's pages to the partition's pool. */
+HVPM_INLINE uint32_t hvpm_deposit_pages(hvpm_machine *machine, hvpm_caller by, uint64_t partition,
+                                        const uint64_t *pages, size_t count, size_t *made,
+                                        hvpm_reply *reply);
+
+/* HvWithdrawMemory: moves pages of the pool to the caller, and stores them in `pages`. */
+HVPM_INLINE uint32_t hvpm_withdraw_pages(hvpm_machine *machine, hvpm_caller by, uint64_t partition,
+                                         uint64_t *pages, size_t count, size_t *made, hvpm_reply *reply);
+
+/* HvGetVpRegisters: stores the value of each register in its `value`. */
+HVPM_INLINE uint32_t hvpm_read_registers(hvpm_machine *machine, hvpm_caller by, uint64_t partition,
+                                         uint32_t vp, hvpm_vp_register *registers, size_t count,
+                                         size_t *made, hvpm_reply *reply);
+
+/* HvSetVpRegisters: sets each register to its `value`. It stops after a write of EOM that shows a message. */
+HVPM_INLINE uint32_t hvpm_write_registers(hvpm_machine *machine, hvpm_caller by, uint64_t partition,
+                                          uint32_t vp, const hvpm_vp_register *registers, size_t count,
+                                          size_t *made, hvpm_reply *reply);
 
 /* ---- Looks ---- */
 

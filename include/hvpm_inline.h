@@ -339,6 +339,112 @@ static inline hvpm_machine *hvpm_seen(const hvpm_machine *machine) {
     return (hvpm_machine *)(uintptr_t)machine;
 }
 
+/*
+ * Executes elements of a list as a rep call of its own, whose output list begins a page. Adds how many were
+ * served to `*made`, and returns whether to go on: all of them were, and none changed a processor. `*status`
+ * changes if no element of the whole list was executed.
+ */
+static inline bool hvpm_part(hvpm_machine *machine, hvpm_caller by, uint16_t code, size_t count,
+                             const uint8_t *input, size_t input_len, hvpm_reply *reply, uint8_t *outputs,
+                             size_t outputs_size, size_t *made, uint32_t *status) {
+    const hvpm_registers registers = {hvpm_rep(code, (uint16_t)count, 0), 0, 0};
+    hvpm_run_done done;
+    const uint32_t is =
+        hvpm_run(machine, by, &registers, input, input_len, reply, outputs, outputs_size, &done);
+    if (is != HVPM_STATUS_OK) {
+        if (*made == 0) *status = is;
+        return false;
+    }
+    const size_t served = done.events - (reply->kind == HVPM_REPLY_DENIED);
+    *made += served;
+    return served == count &&
+           (reply->effect.kind == HVPM_EFFECT_NOTHING || reply->effect.kind == HVPM_EFFECT_PAGE);
+}
+
+static inline size_t hvpm_least(size_t a, size_t b) {
+    return a < b ? a : b;
+}
+
+HVPM_INLINE uint32_t hvpm_deposit_pages(hvpm_machine *machine, hvpm_caller by, uint64_t partition,
+                                        const uint64_t *pages, size_t count, size_t *made,
+                                        hvpm_reply *reply) {
+    uint8_t input[4096], none[HVPM_OUTPUT];
+    uint32_t status = HVPM_STATUS_OK;
+    size_t done = 0, part;
+    if (!machine || !made || !reply || (!pages && count != 0)) return HVPM_STATUS_NULL;
+    hvpm_put(input, partition, 8);
+    do {
+        part = hvpm_least(count - done, (sizeof input - 8) / 8);
+        for (size_t i = 0; i < part; i++) hvpm_put(input + 8 + 8 * i, pages[done + i], 8);
+    } while (hvpm_part(machine, by, 0x48, part, input, 8 + 8 * part, reply, none, sizeof none, &done,
+                       &status) &&
+             done < count);
+    if (status == HVPM_STATUS_OK) *made = done;
+    return status;
+}
+
+HVPM_INLINE uint32_t hvpm_withdraw_pages(hvpm_machine *machine, hvpm_caller by, uint64_t partition,
+                                         uint64_t *pages, size_t count, size_t *made, hvpm_reply *reply) {
+    uint8_t input[8], outputs[4096 + HVPM_OUTPUT];
+    uint32_t status = HVPM_STATUS_OK;
+    size_t done = 0, from;
+    bool is_whole;
+    if (!machine || !made || !reply || (!pages && count != 0)) return HVPM_STATUS_NULL;
+    hvpm_put(input, partition, 8);
+    do {
+        from = done;
+        is_whole = hvpm_part(machine, by, 0x49, hvpm_least(count - done, 4096 / 8), input, sizeof input,
+                             reply, outputs, sizeof outputs, &done, &status);
+        for (size_t i = 0; i < done - from; i++) pages[from + i] = hvpm_number(outputs + 8 * i);
+    } while (is_whole && done < count);
+    if (status == HVPM_STATUS_OK) *made = done;
+    return status;
+}
+
+HVPM_INLINE uint32_t hvpm_read_registers(hvpm_machine *machine, hvpm_caller by, uint64_t partition,
+                                         uint32_t vp, hvpm_vp_register *registers, size_t count,
+                                         size_t *made, hvpm_reply *reply) {
+    uint8_t input[16 + 4 * 256] = {0}, outputs[4096 + HVPM_OUTPUT];
+    uint32_t status = HVPM_STATUS_OK;
+    size_t done = 0, part, from;
+    bool is_whole;
+    if (!machine || !made || !reply || (!registers && count != 0)) return HVPM_STATUS_NULL;
+    hvpm_put(input, partition, 8);
+    hvpm_put(input + 8, vp, 4);
+    do {
+        from = done;
+        part = hvpm_least(count - done, 4096 / 16);
+        for (size_t i = 0; i < part; i++) hvpm_put(input + 16 + 4 * i, registers[from + i].name, 4);
+        is_whole = hvpm_part(machine, by, 0x50, part, input, 16 + 4 * part, reply, outputs, sizeof outputs,
+                             &done, &status);
+        for (size_t i = 0; i < done - from; i++) registers[from + i].value = hvpm_number(outputs + 16 * i);
+    } while (is_whole && done < count);
+    if (status == HVPM_STATUS_OK) *made = done;
+    return status;
+}
+
+HVPM_INLINE uint32_t hvpm_write_registers(hvpm_machine *machine, hvpm_caller by, uint64_t partition,
+                                          uint32_t vp, const hvpm_vp_register *registers, size_t count,
+                                          size_t *made, hvpm_reply *reply) {
+    uint8_t input[4096] = {0}, none[HVPM_OUTPUT];
+    uint32_t status = HVPM_STATUS_OK;
+    size_t done = 0, part;
+    if (!machine || !made || !reply || (!registers && count != 0)) return HVPM_STATUS_NULL;
+    hvpm_put(input, partition, 8);
+    hvpm_put(input + 8, vp, 4);
+    do {
+        part = hvpm_least(count - done, (sizeof input - 16) / 32);
+        for (size_t i = 0; i < part; i++) {
+            hvpm_put(input + 16 + 32 * i, registers[done + i].name, 4);
+            hvpm_put(input + 32 + 32 * i, registers[done + i].value, 8);
+        }
+    } while (hvpm_part(machine, by, 0x51, part, input, 16 + 32 * part, reply, none, sizeof none, &done,
+                       &status) &&
+             done < count);
+    if (status == HVPM_STATUS_OK) *made = done;
+    return status;
+}
+
 HVPM_INLINE uint32_t hvpm_peek_slot(const hvpm_machine *machine, hvpm_caller of, uint8_t sint,
                                     uint8_t out[256]) {
     return machine && out ? hv_embed_peek_slot(hvpm_seen(machine), of, sint, out)

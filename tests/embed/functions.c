@@ -16,7 +16,7 @@
 #include <string.h>
 
 /* How many cases of a null there are. */
-enum { CASES = 186 };
+enum { CASES = 206 };
 
 static int wrong;
 
@@ -62,13 +62,15 @@ enum argument {
     PENDING,
     TEXT,
     LEN,
+    MADE,
     ARGUMENTS,
     END = ARGUMENTS
 };
 static const char *const names[ARGUMENTS] = {
     "machine",   "config", "registers", "input",  "reply", "line",      "outputs", "done", "value",
     "partition", "child",  "available", "in_use", "pages", "registers", "payload", "port", "connection",
-    "out",       "owner",  "eax_to_edx", "pending", "text", "len"};
+    "out",       "owner",  "eax_to_edx", "pending", "text", "len",
+    "made"};
 struct arguments {
     void *at[ARGUMENTS];
     size_t len[ARGUMENTS];
@@ -172,7 +174,7 @@ static struct arguments arguments_of(struct world *world, enum kind kind) {
         {machine, &world->config, &world->registers, world->input, &world->reply, world->line, world->outputs,
          &world->done, &world->number, &world->number, &world->number, &world->number, &world->other,
          world->pages, world->vp_registers, world->payload, &world->port, &world->connection, &world->out,
-         &world->number, world->features, world->pending, world->text, &world->len},
+         &world->number, world->features, world->pending, world->text, &world->len, &world->len},
         {[INPUT] = sizeof world->input,
          [LINE] = sizeof world->line,
          [OUTPUTS] = sizeof world->outputs,
@@ -356,6 +358,24 @@ static uint32_t read_msr_value(const struct arguments *a) {
     return hvpm_read_msr_value(a->at[MACHINE], root, 0x40000092, a->at[VALUE], TOLD);
 }
 
+static uint32_t deposit_pages(const struct arguments *a) {
+    return hvpm_deposit_pages(a->at[MACHINE], root, 1, a->at[PAGES], a->len[PAGES], a->at[MADE], a->at[REPLY]);
+}
+
+static uint32_t withdraw_pages(const struct arguments *a) {
+    return hvpm_withdraw_pages(a->at[MACHINE], root, 1, a->at[PAGES], a->len[PAGES], a->at[MADE], a->at[REPLY]);
+}
+
+static uint32_t read_registers(const struct arguments *a) {
+    return hvpm_read_registers(a->at[MACHINE], root, 1, 0, a->at[VP_REGISTERS], a->len[VP_REGISTERS],
+                               a->at[MADE], a->at[REPLY]);
+}
+
+static uint32_t write_registers(const struct arguments *a) {
+    return hvpm_write_registers(a->at[MACHINE], root, 1, 0, a->at[VP_REGISTERS], a->len[VP_REGISTERS],
+                                a->at[MADE], a->at[REPLY]);
+}
+
 static uint32_t peek_slot(const struct arguments *a) {
     return hvpm_peek_slot(a->at[MACHINE], root, 2, a->at[OUT]);
 }
@@ -448,6 +468,10 @@ static const struct function {
     {"hvpm_create_port", create_port, EVENT, {MACHINE, PORT, REPLY, LINE, END}},
     {"hvpm_connect_port", connect_port, EVENT, {MACHINE, CONNECTION, REPLY, LINE, END}},
     {"hvpm_read_msr_value", read_msr_value, EVENT, {MACHINE, VALUE, REPLY, LINE, END}},
+    {"hvpm_deposit_pages", deposit_pages, EVENT, {MACHINE, PAGES, MADE, REPLY, END}},
+    {"hvpm_withdraw_pages", withdraw_pages, EVENT, {MACHINE, PAGES, MADE, REPLY, END}},
+    {"hvpm_read_registers", read_registers, EVENT, {MACHINE, VP_REGISTERS, MADE, REPLY, END}},
+    {"hvpm_write_registers", write_registers, EVENT, {MACHINE, VP_REGISTERS, MADE, REPLY, END}},
     {"hvpm_peek_slot", peek_slot, LOOK, {MACHINE, OUT, END}},
     {"hvpm_peek_flags", peek_flags, LOOK, {MACHINE, OUT, END}},
     {"hvpm_peek_msr", peek_msr, LOOK, {MACHINE, VALUE, END}},
@@ -530,6 +554,13 @@ static void try_all(const struct function *function) {
     hvpm_destroy(&world.empty);
 }
 
+/* Whether it executes several elements, without a line. */
+static bool goes_on(const struct function *function) {
+    for (const int *argument = function->takes; *argument != END; argument++)
+        if (*argument == LINE) return false;
+    return true;
+}
+
 /* The handle's count is at its end: nothing is written, and nothing happened. One before, one is taken. */
 static void try_used_up(const struct function *function) {
     struct world world, before;
@@ -546,10 +577,11 @@ static void try_used_up(const struct function *function) {
     want(function->name, "the last event", function->call(&arguments), HVPM_STATUS_OK);
     holds(function->name, "the last number", world.machine.events == UINT64_MAX);
     holds(function->name, "a line with it",
-          function->call == run || memcmp(world.line, "18446744073709551615 1.0 ", 25) == 0);
-    if (function->call == run)
+          goes_on(function) || memcmp(world.line, "18446744073709551615 1.0 ", 25) == 0);
+    if (goes_on(function))
         holds(function->name, "that it goes on",
-              world.reply.kind == HVPM_REPLY_MORE && world.reply.next == 1 && world.done.events == 1);
+              world.reply.kind == HVPM_REPLY_MORE && world.reply.next == 1 &&
+                  (function->call == run ? world.done.events : world.len) == 1);
     want(function->name, "used up after it", function->call(&arguments), HVPM_STATUS_USED_UP);
     hvpm_destroy(&world.machine);
 }

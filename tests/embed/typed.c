@@ -1,7 +1,7 @@
 /*
  * Makes machines by typed calls, and prints the audit: with the word `life` that of examples/life.hv, and
  * with `others` that of the calls which aren't in it, which is in typed.out, typed by hand. What a call
- * puts out must stand where the caller wants it.
+ * puts out must stand where the caller wants it. With `lists` it makes calls of lists, longer than a page.
  */
 #include "hvpm.h"
 
@@ -180,12 +180,90 @@ static void others(void) {
     weigh(HVPM_SELF, 5, 9);
 }
 
+/* ---- Lists ---- */
+
+enum { LIST = 600 };
+
+static uint64_t pages[LIST];
+static hvpm_vp_register registers[LIST];
+
+/* What a list did: how many elements were served, and the kind and the rule of the last reply. */
+static void did(const char *what, uint32_t status, size_t made, size_t wanted, uint32_t kind, uint32_t rule) {
+    must(status == HVPM_STATUS_OK && made == wanted && reply.kind == kind && reply.rule == rule, what);
+}
+
+static void move_pages(void) {
+    size_t made = 99;
+    uint32_t status = hvpm_withdraw_pages(&machine, root, 1, pages, LIST, &made, &reply);
+    did("pages come", status, made, LIST, HVPM_REPLY_SERVED, 0);
+    for (uint64_t i = 0; i < LIST; i++) must(pages[i] == i, "the lowest pages come, in order");
+    weigh(1, 396, 4);
+    status = hvpm_deposit_pages(&machine, root, 1, pages, LIST, &made, &reply);
+    did("pages go", status, made, LIST, HVPM_REPLY_SERVED, 0);
+    weigh(1, 996, 4);
+    for (uint64_t i = 0; i < LIST; i++) pages[i] = 1000 + i;
+    pages[550] = 5000;
+    status = hvpm_deposit_pages(&machine, root, 1, pages, LIST, &made, &reply);
+    did("no such page", status, made, 550, HVPM_REPLY_DENIED, 21);
+    weigh(1, 1546, 4);
+    status = hvpm_deposit_pages(&machine, root, 1, pages, 1, &made, &reply);
+    did("a page that isn't loose", status, made, 0, HVPM_REPLY_DENIED, 21);
+    status = hvpm_deposit_pages(&machine, root, 1, NULL, 0, &made, &reply);
+    did("no page", status, made, 0, HVPM_REPLY_DENIED, 5);
+}
+
+static void set_list(void) {
+    size_t made = 99;
+    for (uint32_t i = 0; i < LIST; i++) registers[i] = (hvpm_vp_register){0x20000 + i % 16, 7 * i};
+    uint32_t status = hvpm_write_registers(&machine, root, 1, 0, registers, LIST, &made, &reply);
+    did("registers are set", status, made, LIST, HVPM_REPLY_SERVED, 0);
+    for (uint32_t i = 0; i < LIST; i++) registers[i].value = 0;
+    status = hvpm_read_registers(&machine, root, 1, 0, registers, LIST, &made, &reply);
+    did("registers are read", status, made, LIST, HVPM_REPLY_SERVED, 0);
+    /* The last of them were set to 7 * 584 to 7 * 599, of which 592 is a multiple of 16. */
+    for (uint32_t i = 0; i < LIST; i++)
+        must(registers[i].value == 7 * (i % 16 < 8 ? 592 + i % 16 : 576 + i % 16), "a register isn't right");
+    registers[300].name = 0x20012;
+    status = hvpm_read_registers(&machine, root, 1, 0, registers, LIST, &made, &reply);
+    did("no such register", status, made, 300, HVPM_REPLY_DENIED, 21);
+}
+
+/* A write of EOM that shows a message ends the list, so that its effect isn't lost. */
+static void set_eom(void) {
+    const hvpm_port port = {.partition = 1, .id = 1, .peer = 1, .type = HVPM_PORT_MESSAGES, .sint = 2};
+    const hvpm_connection connection = {1, 1, 1, 1, HVPM_PORT_MESSAGES};
+    size_t made = 99;
+    for (uint32_t i = 0; i < 2; i++)
+        must(hvpm_write_msr(&machine, root, i == 0 ? HVPM_MSR_SCONTROL : HVPM_MSR_SIMP, 1, &reply, NULL, 0) ==
+                 HVPM_STATUS_OK, "it is ready");
+    tell(hvpm_create_port(&machine, root, &port, TOLD));
+    tell(hvpm_connect_port(&machine, root, &connection, TOLD));
+    for (uint32_t i = 0; i < 2; i++) tell(hvpm_post_message(&machine, root, 1, 1, "hi", 2, TOLD));
+    tell(hvpm_clear_slot(&machine, root, 2, TOLD));
+    for (uint32_t i = 0; i < LIST; i++) registers[i] = (hvpm_vp_register){HVPM_REGISTER_RAX, i};
+    registers[126].name = HVPM_REGISTER_EOM;
+    uint32_t status = hvpm_write_registers(&machine, root, 1, 0, registers, LIST, &made, &reply);
+    must(status == HVPM_STATUS_OK && made == 127 && reply.effect.kind == HVPM_EFFECT_SYNIC &&
+             reply.effect.shown == 4, "EOM ends a list");
+    status = hvpm_write_registers(&machine, root, 1, 0, registers + 127, LIST - 127, &made, &reply);
+    did("the rest", status, made, LIST - 127, HVPM_REPLY_SERVED, 0);
+}
+
+static void lists(void) {
+    boot(2000, 1000);
+    move_pages();
+    set_list();
+    set_eom();
+}
+
 int main(int argc, char **argv) {
-    must(argc == 2, "usage: typed life, or typed others");
+    must(argc == 2, "usage: typed life, typed others, or typed lists");
     if (strcmp(argv[1], "life") == 0)
         life();
-    else
+    else if (strcmp(argv[1], "others") == 0)
         others();
+    else
+        lists();
     printf("events %" PRIu64 "\n", machine.events);
     hvpm_destroy(&machine);
     return 0;

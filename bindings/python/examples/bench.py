@@ -3,19 +3,20 @@
 import unittest
 
 import hvpm
+from hvpm import Msr
 
 HOST, GUEST = hvpm.Caller(1, 0), hvpm.Caller(2, 0)
-SCONTROL, SIMP, EOM, SINT2 = 0x40000080, 0x40000083, 0x40000084, 0x40000092
 
 
 def enable(machine, by, vector):
-    return [machine.write_msr(by, msr, value) for msr, value in ((SCONTROL, 1), (SIMP, 1), (SINT2, vector))]
+    msrs = ((Msr.SCONTROL, 1), (Msr.SIMP, 1), (Msr.SINT2, vector))
+    return [machine.write_msr(by, msr, value) for msr, value in msrs]
 
 
 def receive(machine, by):
     """The payload of the message that SINT 2 shows. It lets that go, so that the next one comes."""
     slot = machine.read_slot(by, 2).output
-    assert machine.clear_slot(by, 2).is_served and machine.write_msr(by, EOM, 0).is_served
+    assert machine.clear_slot(by, 2).is_served and machine.write_msr(by, Msr.EOM, 0).is_served
     return slot[16 : 16 + slot[4]]
 
 
@@ -37,7 +38,7 @@ class Bench(unittest.TestCase):
     def setUp(self):
         self.machine = m = hvpm.Machine.boot(mask=0xF700000064, pages=64, pool=32, vps=1)
         replies = [m.create_partition(HOST), m.initialize_partition(HOST, 2)]
-        replies += [m.deposit_memory(HOST, 2, [page]) for page in range(40, 46)] + [m.create_vp(HOST, 2, 0)]
+        replies += [m.deposit_pages(HOST, 2, range(40, 46)).reply, m.create_vp(HOST, 2, 0)]
         for ours, theirs in ((1, 2), (2, 1)):  # port 1 of ours, to which theirs has connection 1
             replies.append(m.create_port(HOST, partition=ours, id=1, peer=theirs, sint=2, vp=0))
             replies.append(m.connect_port(HOST, partition=theirs, id=1, port_partition=ours, port=1))

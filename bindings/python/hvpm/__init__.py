@@ -38,6 +38,7 @@ from .replies import (
     Caller,
     Error,
     HvStatus,
+    Made,
     Reply,
     Rule,
     Run,
@@ -52,7 +53,7 @@ from .replies import (
 
 __all__ = [
     "ANY_VP", "SELF", "Access", "Answer", "Balance", "Call", "Caller", "Connection", "Error", "HvStatus",
-    "HvStatusNumber", "Life", "Machine", "Msr", "Pages", "Partition", "Port", "PortType", "Privilege",
+    "HvStatusNumber", "Life", "Machine", "Made", "Msr", "Pages", "Partition", "Port", "PortType", "Privilege",
     "Property", "Register", "Reply", "Rule", "RuleNumber", "Run", "Status",
     "access_line", "boot_line", "effect", "hv_status_name", "hypercall_line", "is_call", "is_msr", "next",
     "pages", "rule_name", "rule_sentence", "serve", "status_name", "version",

@@ -2,12 +2,14 @@
 from __future__ import annotations
 
 import ctypes
-from typing import Any, Callable, FrozenSet, Iterable, Optional, Tuple
+from typing import Any, Callable, FrozenSet, Iterable, Optional, Tuple, Union
 
 from . import _raw
 from ._library import call, struct
 from .effect import Effect, Flag, Nothing, Page, Pages, Partition, Processor, Synic
 from .replies import Answer, Error, HvStatus, Reply, Rule, Status
+
+Data = Union[bytes, bytearray, memoryview]
 
 
 def check(status: int) -> None:
@@ -26,6 +28,14 @@ def text(name: str, *arguments: Any) -> str:
         status = call(name, *arguments, buffer, size.value, size)
     check(status)
     return buffer.raw[: size.value].decode("ascii")
+
+
+def data(value: Data) -> bytes:
+    """Bytes as the library has them. By itself ctypes would take a text, as 4 bytes a character."""
+    if isinstance(value, (bytes, bytearray, memoryview)):
+        return bytes(value)
+    hint = ": encode it" if isinstance(value, str) else ""
+    raise TypeError(f"bytes are wanted, and not {type(value).__name__}{hint}")
 
 
 def caller(by: Tuple[int, int]) -> Any:

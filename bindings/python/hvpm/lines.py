@@ -5,7 +5,7 @@ import enum
 from typing import Tuple
 
 from . import _raw
-from ._convert import caller, text
+from ._convert import Data, caller, data, text
 from ._library import struct
 
 
@@ -27,11 +27,11 @@ def boot_line(mask: int, pages: int, pool: int, vps: int, limit: int) -> str:
     return f"boot {pages} {pool} {vps} {mask:#x} {limit}\n"
 
 
-def hypercall_line(by: Tuple[int, int], rcx: int, rdx: int = 0, r8: int = 0, input: bytes = b"") -> str:
+def hypercall_line(by: Tuple[int, int], rcx: int, rdx: int = 0, r8: int = 0, input: Data = b"") -> str:
     """Returns the line of a hypercall, with its line feed. The line has the first 4,096 bytes of the input:
     no input list is longer. A rep call is one line, which executes all of its elements: record only the
     first."""
-    registers = struct(_raw.hvpm_registers, rcx=rcx, rdx=rdx, r8=r8)
+    registers, input = struct(_raw.hvpm_registers, rcx=rcx, rdx=rdx, r8=r8), data(input)
     return text("hypercall_line", caller(by), registers, input, len(input))
 
 

@@ -9,9 +9,9 @@ from dataclasses import dataclass
 from typing import Any, Callable, FrozenSet, Iterable, Optional, Sequence, Tuple
 
 from . import _raw
-from ._convert import bits_of, caller, check, reply_of, text, vectors_of
+from ._convert import Data, bits_of, caller, check, data, reply_of, text, vectors_of
 from ._library import call, checked, struct
-from .replies import Reply, Run, Status
+from .replies import Made, Reply, Run, Status
 
 SELF = _raw.HVPM_SELF
 """HV_PARTITION_ID_SELF. In a hypercall, this partition id means the caller's own partition."""
@@ -177,16 +177,16 @@ class Machine:
         number = ctypes.c_uint64()
         return self._take(name, by, *arguments, number, value=lambda: number.value)
 
-    def hypercall(self, by: By, rcx: int, rdx: int = 0, r8: int = 0, input: bytes = b"") -> Reply[None]:
+    def hypercall(self, by: By, rcx: int, rdx: int = 0, r8: int = 0, input: Data = b"") -> Reply[None]:
         """Executes one hypercall: a simple call, or the element of a rep call at its start index.
 
         `input` holds the bytes from guest memory at RDX. Bytes that the list needs but `input` lacks read as
         zero, and a fast call ignores it. If the reply is MORE, continue with `hvpm.next`."""
-        registers = struct(_raw.hvpm_registers, rcx=rcx, rdx=rdx, r8=r8)
+        registers, input = struct(_raw.hvpm_registers, rcx=rcx, rdx=rdx, r8=r8), data(input)
         return self._take("hypercall", by, registers, input, len(input))
 
     def run(
-        self, by: By, rcx: int, rdx: int = 0, r8: int = 0, input: bytes = b"", outputs_size: int = 4096
+        self, by: By, rcx: int, rdx: int = 0, r8: int = 0, input: Data = b"", outputs_size: int = 4096
     ) -> Run:
         """Executes a hypercall like `hypercall`. A rep call continues with its next elements, each as an
         event of its own. It stops
@@ -197,7 +197,7 @@ class Machine:
         - when the machine takes no more events, or lacks memory for the next element, which isn't executed.
 
         If the reply is MORE, continue with `hvpm.next`. There are no audit lines."""
-        registers = struct(_raw.hvpm_registers, rcx=rcx, rdx=rdx, r8=r8)
+        registers, input = struct(_raw.hvpm_registers, rcx=rcx, rdx=rdx, r8=r8), data(input)
         reply, done = _raw.hvpm_reply(), _raw.hvpm_run_done()
         outputs = ctypes.create_string_buffer(outputs_size)
         with self._lock:
@@ -339,9 +339,10 @@ class Machine:
         """HvDisconnectPort: deletes a connection of the partition."""
         return self._take("disconnect_port", by, partition, connection)
 
-    def post_message(self, by: By, connection: int, type: int, payload: bytes = b"") -> Reply[None]:
+    def post_message(self, by: By, connection: int, type: int, payload: Data = b"") -> Reply[None]:
         """HvPostMessage: posts a message through a connection of the caller. Rule P7 refuses a payload of
         more than 240 bytes."""
+        payload = data(payload)
         return self._take("post_message", by, connection, type, payload, len(payload))
 
     def signal_event(self, by: By, connection: int, flag: int) -> Reply[None]:
@@ -397,6 +398,41 @@ class Machine:
             type=type,
         )
         return self._take("connect_port", by, connection)
+
+    # ---- The four rep calls for lists of any length. Each element is an event of its own, without an audit
+    # line. A call stops at the element that a rule refuses, and where `run` does. P5 refuses an empty list. ----
+
+    def _make(self, name: str, by: By, *arguments: Any, values: Callable[[int], Any] = lambda _: ()) -> Made:
+        made, reply = ctypes.c_size_t(), _raw.hvpm_reply()
+        with self._lock:
+            check(call(name, self._handle, caller(by), *arguments, made, reply))
+        return Made(reply_of(reply, b""), made.value, tuple(values(made.value)))
+
+    def deposit_pages(self, by: By, partition: int, pages: Sequence[int]) -> Made:
+        """HvDepositMemory: moves the caller's pages to the partition's pool."""
+        array = (ctypes.c_uint64 * len(pages))(*(checked(ctypes.c_uint64, page) for page in pages))
+        return self._make("deposit_pages", by, partition, array, len(array))
+
+    def withdraw_pages(self, by: By, partition: int, count: int) -> Made:
+        """HvWithdrawMemory: moves pages of the partition's pool to the caller. The values are those pages."""
+        array = (ctypes.c_uint64 * count)()
+        return self._make("withdraw_pages", by, partition, array, count, values=lambda made: array[:made])
+
+    def read_registers(self, by: By, partition: int, vp: int, names: Sequence[int]) -> Made:
+        """HvGetVpRegisters. The values are those of the registers."""
+        array = _registers((name, 0) for name in names)
+        return self._make(
+            "read_registers", by, partition, vp, array, len(array),
+            values=lambda made: (each.value for each in array[:made]),
+        )  # fmt: skip
+
+    def write_registers(
+        self, by: By, partition: int, vp: int, registers: Sequence[Tuple[int, int]]
+    ) -> Made:
+        """HvSetVpRegisters. `registers` has pairs of a name and a value. It stops after a write of EOM that
+        shows a message."""
+        array = _registers(registers)
+        return self._make("write_registers", by, partition, vp, array, len(array))
 
     # ---- Looks read the machine without an event: they aren't counted and have no audit line. ----
 

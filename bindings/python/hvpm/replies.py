@@ -3,7 +3,7 @@ from __future__ import annotations
 
 import enum
 from dataclasses import dataclass, field
-from typing import Any, Generic, NamedTuple, Optional, TypeVar
+from typing import Any, Generic, NamedTuple, Optional, Tuple, TypeVar
 
 from . import _raw
 from ._library import call
@@ -129,6 +129,20 @@ class Run:
     """The number of elements executed, at least 1."""
     outputs: bytes
     """The outputs of these elements, one after another."""
+
+
+@dataclass(frozen=True)
+class Made:
+    """How far a call of a list got, such as `Machine.deposit_pages`."""
+
+    reply: Reply[None]
+    """The reply to the last element executed, without an audit line. If it is DENIED, its rule refused the
+    element behind those that were served."""
+    count: int
+    """The number of elements served, from the first on. If it is less than the list's, and no rule refused an
+    element, call the method again with the rest."""
+    values: Tuple[int, ...] = ()
+    """What they output: pages, or values of registers."""
 
 
 def next(rcx: int, reply: Reply[Any]) -> int:

@@ -119,3 +119,40 @@ class Calls(unittest.TestCase):
         ]
         for number, (reply, rule) in enumerate(replies):
             self.assertEqual((reply.rule, reply.value), (rule, None), f"case {number}")
+
+    def test_lists_are_longer_than_a_page(self):
+        m = self.boot(2000, 1000)
+        made = m.withdraw_pages(ROOT, SELF, 600)
+        self.assertEqual((made.count, made.reply.answer, made.values), (600, Answer.SERVED, tuple(range(600))))
+        self.assertEqual(m.deposit_pages(ROOT, SELF, made.values).count, 600)
+        made = m.deposit_pages(ROOT, SELF, [*range(1000, 1550), 5000, 1551])
+        self.assertEqual((made.count, made.reply.rule, made.values), (550, hvpm.RuleNumber.P21, ()))
+        pairs = [(hvpm.Register.RAX + at % 16, 7 * at) for at in range(600)]
+        self.assertEqual(m.write_registers(ROOT, SELF, 0, pairs).count, 600)
+        made = m.read_registers(ROOT, SELF, 0, [name for name, _ in pairs])
+        last = dict(pairs)
+        self.assertEqual(made.values, tuple(last[name] for name, _ in pairs))
+        self.assertEqual(made.count, 600)
+        self.assertEqual(m.events, 600 + 600 + 551 + 600 + 600)
+
+    def test_bytes_are_bytes_and_a_text_is_none(self):
+        """A list and a payload may be any of Python's own kinds of bytes."""
+        m, text = self.boot(32, 16), "01000000000000000100000000000000"
+        for kind in (bytes, bytearray, memoryview):
+            given = kind(bytes.fromhex(text))
+            self.assertEqual(m.hypercall(ROOT, hvpm.Call.GET_MEMORY_BALANCE, input=given).answer, Answer.SERVED)
+            self.assertEqual(m.post_message(ROOT, 1, 1, given).rule, hvpm.RuleNumber.P16)
+            line = hvpm.hypercall_line(ROOT, hvpm.Call.GET_MEMORY_BALANCE, input=given)
+            self.assertEqual(line, "1.0 call 0x4a 0x0 0x0 0100000000000000\n")
+        events = m.events
+        for take in (
+            lambda: m.post_message(ROOT, 1, 1, "text"),
+            lambda: m.hypercall(ROOT, 0x4A, input="text"),
+            lambda: m.run(ROOT, 0x4A, input="text"),
+            lambda: hvpm.hypercall_line(ROOT, 0x4A, input="text"),
+        ):
+            with self.assertRaisesRegex(TypeError, "bytes are wanted, and not str: encode it"):
+                take()
+        with self.assertRaisesRegex(TypeError, "bytes are wanted, and not list$"):
+            m.post_message(ROOT, 1, 1, [1])
+        self.assertEqual(m.events, events)

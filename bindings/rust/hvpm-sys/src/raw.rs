@@ -280,6 +280,10 @@ unsafe extern "C" {
     pub fn hvpm_signal_event(machine: *mut hvpm_machine, by: hvpm_caller, connection: u32, flag: u16, reply: *mut hvpm_reply, line: *mut c_char, line_size: usize) -> u32;
     pub fn hvpm_create_port(machine: *mut hvpm_machine, by: hvpm_caller, port: *const hvpm_port, reply: *mut hvpm_reply, line: *mut c_char, line_size: usize) -> u32;
     pub fn hvpm_connect_port(machine: *mut hvpm_machine, by: hvpm_caller, connection: *const hvpm_connection, reply: *mut hvpm_reply, line: *mut c_char, line_size: usize) -> u32;
+    pub fn hvpm_deposit_pages(machine: *mut hvpm_machine, by: hvpm_caller, partition: u64, pages: *const u64, count: usize, made: *mut usize, reply: *mut hvpm_reply) -> u32;
+    pub fn hvpm_withdraw_pages(machine: *mut hvpm_machine, by: hvpm_caller, partition: u64, pages: *mut u64, count: usize, made: *mut usize, reply: *mut hvpm_reply) -> u32;
+    pub fn hvpm_read_registers(machine: *mut hvpm_machine, by: hvpm_caller, partition: u64, vp: u32, registers: *mut hvpm_vp_register, count: usize, made: *mut usize, reply: *mut hvpm_reply) -> u32;
+    pub fn hvpm_write_registers(machine: *mut hvpm_machine, by: hvpm_caller, partition: u64, vp: u32, registers: *const hvpm_vp_register, count: usize, made: *mut usize, reply: *mut hvpm_reply) -> u32;
     pub fn hvpm_peek_slot(machine: *const hvpm_machine, of: hvpm_caller, sint: u8, out: *mut u8) -> u32;
     pub fn hvpm_peek_flags(machine: *const hvpm_machine, of: hvpm_caller, sint: u8, out: *mut u8) -> u32;
     pub fn hvpm_peek_msr(machine: *const hvpm_machine, of: hvpm_caller, msr: u32, value: *mut u64) -> u32;

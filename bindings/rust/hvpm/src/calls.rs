@@ -1,6 +1,7 @@
 //! The 21 hypercalls by their fields, as methods of [`Machine`].
 
-use crate::{Caller, ConnectionId, Machine, Output, PartitionId, PortId, Reply, Sint, Status, VpIndex};
+use crate::status::done;
+use crate::{Caller, ConnectionId, Machine, Made, Output, PartitionId, PortId, Reply, Sint, Status, VpIndex};
 use core::mem::offset_of;
 use hvpm_sys as sys;
 
@@ -363,5 +364,74 @@ impl Machine {
         self.take(|machine, reply, line, size| unsafe {
             sys::hvpm_connect_port(machine, by.raw(), &connection, reply, line, size)
         })
+    }
+}
+
+/// The four rep calls for lists of any length. Each element is an event of its own, without an audit line. A
+/// call stops at the element that a rule refuses, and where [`Machine::run`] does. P5 refuses an empty list.
+impl Machine {
+    /// HvDepositMemory: moves the caller's pages to the partition's pool.
+    pub fn deposit_pages(
+        &mut self,
+        by: Caller,
+        partition: PartitionId,
+        pages: &[u64],
+    ) -> Result<Made, Status> {
+        let (at, len) = (pages.as_ptr(), pages.len());
+        self.make(|machine, made, reply| unsafe {
+            sys::hvpm_deposit_pages(machine, by.raw(), partition.0, at, len, made, reply)
+        })
+    }
+
+    /// HvWithdrawMemory: moves pages of the pool to the caller, and stores them in `pages`.
+    pub fn withdraw_pages(
+        &mut self,
+        by: Caller,
+        partition: PartitionId,
+        pages: &mut [u64],
+    ) -> Result<Made, Status> {
+        let (at, len) = (pages.as_mut_ptr(), pages.len());
+        self.make(|machine, made, reply| unsafe {
+            sys::hvpm_withdraw_pages(machine, by.raw(), partition.0, at, len, made, reply)
+        })
+    }
+
+    /// HvGetVpRegisters: stores the value of each register in its `value`.
+    pub fn read_registers(
+        &mut self,
+        by: Caller,
+        partition: PartitionId,
+        vp: VpIndex,
+        registers: &mut [VpRegister],
+    ) -> Result<Made, Status> {
+        let (at, len) = (registers.as_mut_ptr().cast(), registers.len());
+        self.make(|machine, made, reply| unsafe {
+            sys::hvpm_read_registers(machine, by.raw(), partition.0, vp.0, at, len, made, reply)
+        })
+    }
+
+    /// HvSetVpRegisters: sets each register to its `value`. It stops after a write of EOM that shows a
+    /// message.
+    pub fn write_registers(
+        &mut self,
+        by: Caller,
+        partition: PartitionId,
+        vp: VpIndex,
+        registers: &[VpRegister],
+    ) -> Result<Made, Status> {
+        let (at, len) = (registers.as_ptr().cast(), registers.len());
+        self.make(|machine, made, reply| unsafe {
+            sys::hvpm_write_registers(machine, by.raw(), partition.0, vp.0, at, len, made, reply)
+        })
+    }
+
+    // SAFETY of the calls above: as in `hypercall`.
+    fn make(
+        &mut self,
+        call: impl FnOnce(*mut sys::hvpm_machine, *mut usize, *mut sys::hvpm_reply) -> u32,
+    ) -> Result<Made, Status> {
+        let (mut reply, mut count) = (Reply::new(), 0);
+        done(call(&mut self.handle, &mut count, &mut reply.raw))?;
+        Ok(Made { reply, count })
     }
 }

@@ -57,5 +57,5 @@ pub use looks::{Life, Partition, is_call, is_msr};
 pub use machine::{Config, Machine, Registers};
 pub use names::{hv_status_name, rule_name, rule_sentence, status_name, version};
 pub use numbers::{call, hv_status, msr, privilege, register, rule};
-pub use reply::{Answer, HvStatus, Output, Reply, Rule, Run, next};
+pub use reply::{Answer, HvStatus, Made, Output, Reply, Rule, Run, next};
 pub use status::Status;

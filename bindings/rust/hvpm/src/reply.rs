@@ -170,6 +170,17 @@ pub struct Run<'o> {
     pub outputs: &'o [u8],
 }
 
+/// How far a call of a list got, such as [`crate::Machine::deposit_pages`].
+#[derive(Clone, Debug)]
+pub struct Made {
+    /// The reply to the last element executed, without an audit line. If it is [`Answer::Denied`], its rule
+    /// refused the element behind those that were served.
+    pub reply: Reply,
+    /// The number of elements served, from the first on. If it is less than the list's, and no rule refused
+    /// an element, call the function again with the rest.
+    pub count: usize,
+}
+
 /// Returns RCX for the next element, after a reply that is [`Answer::More`].
 pub fn next(rcx: u64, reply: &Reply) -> u64 {
     // SAFETY: the reply is a whole one, and is only read.

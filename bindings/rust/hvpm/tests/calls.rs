@@ -195,3 +195,25 @@ fn lists_and_payloads_that_are_too_long_are_refused() -> Result<(), Status> {
     }
     Ok(())
 }
+
+#[test]
+fn lists_are_longer_than_a_page() -> Result<(), Status> {
+    let mut machine = Machine::boot(Config { mask: 0xf7_0000_0044, pages: 2000, pool: 1000, vps: 1 })?;
+    let mut pages = [99; 600];
+    let made = machine.withdraw_pages(ROOT, SELF, &mut pages)?;
+    assert_eq!((made.count, made.reply.answer()), (600, Answer::Served));
+    assert!((0..).zip(pages).all(|(at, page)| page == at));
+    assert_eq!(machine.deposit_pages(ROOT, SELF, &pages)?.count, 600);
+    pages[..550].iter_mut().for_each(|page| *page += 1000);
+    let made = machine.deposit_pages(ROOT, SELF, &pages)?;
+    assert_eq!((made.count, made.reply.rule()), (550, Some(hvpm::Rule(hvpm::rule::P21))));
+
+    let mut registers: Vec<_> = (0..600)
+        .map(|at| VpRegister { name: hvpm::register::RAX + at % 16, value: 7 * u64::from(at) })
+        .collect();
+    assert_eq!(machine.write_registers(ROOT, SELF, VpIndex(0), &registers)?.count, 600);
+    assert_eq!(machine.read_registers(ROOT, SELF, VpIndex(0), &mut registers)?.count, 600);
+    assert_eq!((registers[0].value, registers[8].value, registers[599].value), (7 * 592, 7 * 584, 7 * 599));
+    assert_eq!(machine.events(), 600 + 600 + 551 + 600 + 600);
+    Ok(())
+}
