@@ -5,7 +5,7 @@ ghost use Rattle.hv_abi.specs.CallRow.{row_of, kind_of, fits_registers, input_le
 use crate::input_value::InputValue;
 
 /// A call's row: its code, its kind of call and the lengths of its lists, in bytes (TLFS 4.0, the pages
-/// of the calls). The codes 0x95 and 0x96 and the lengths are this project's own.
+/// of the calls). The codes 0x95 and 0x96 are those of Linux' headers. The lengths are this project's own.
 #[derive(Clone, Copy, PartialEq, Eq, Debug)]
 pub struct CallRow {
     /// The call code, bits 15:0 of the input value.
