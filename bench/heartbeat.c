@@ -14,6 +14,7 @@ static unsigned long long looks;
 
 #include <inttypes.h>
 #include <stdio.h>
+#include <string.h>
 #include <time.h>
 
 enum { MOST = 64, SINT = 2, VECTOR = 0xF3, CALLS = 8, HEARTBEATS = 200000, PAGE = 4096 };

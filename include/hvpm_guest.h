@@ -26,7 +26,6 @@
 #define HVPM_GUEST_H
 
 #include "hvpm.h"
-#include <string.h>
 
 /* ---- Hypercalls ---- */
 
@@ -101,7 +100,7 @@ HVPM_INLINE bool hvpm_guest_has_input(const hvpm_registers *call) {
 HVPM_INLINE bool hvpm_guest_has_output(const hvpm_registers *call) {
     static const uint8_t codes[] = {0x40, 0x44, 0x46, 0x47, 0x49, 0x4A, 0x50};
     const uint16_t code = (uint16_t)call->rcx;
-    return !(call->rcx >> 16 & 1) && code < 0x100 && memchr(codes, code, sizeof codes) != NULL;
+    return !(call->rcx >> 16 & 1) && code < 0x100 && __builtin_memchr(codes, code, sizeof codes) != NULL;
 }
 
 /*
@@ -243,7 +242,7 @@ HVPM_INLINE bool hvpm_guest_cpuid(uint32_t leaf, uint64_t mask, uint32_t eax_to_
         {64, 64, 0, 0}};                                  /* most virtual and logical processors */
     const uint32_t index = leaf - 0x40000000; /* of a lower leaf a large one */
     if (index >= sizeof leaves / sizeof *leaves) return false;
-    memcpy(eax_to_edx, leaves[index], sizeof *leaves);
+    __builtin_memcpy(eax_to_edx, leaves[index], sizeof *leaves);
     return true;
 }
 

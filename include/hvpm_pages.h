@@ -6,8 +6,8 @@
  * (TLFS 4.0, "Inter-Partition Communication"). Call these functions around each event. Each processor has an
  * hvpm_pages, to which `p` points:
  *
- *     hvpm_pages_before(&machine, p);                 // before EOM: the p that writes it; before a post: each p
- *                                                     // of the port's partition; before HvSetVpRegisters: its p
+ *     hvpm_pages_before(&machine, p);                 // before EOM and HvSetVpRegisters: p of that processor;
+ *                                                     // before a post: each p of the port's partition
  *     hvpm_hypercall(&machine, ..., &reply, ...);     // the event that the guest exited for
  *     hvpm_pages_move(&machine, p, messages, flags);  // only after a write of SIMP or SIEFP
  *     hvpm_pages_after(&machine, p, &reply.effect);   // after each event: the p that the effect names
@@ -23,7 +23,6 @@
 #define HVPM_PAGES_H
 
 #include "hvpm.h"
-#include <string.h>
 
 /* A slot of the message page. The guest and the VMM access `type` and `flags` concurrently, by atomics. */
 typedef struct hvpm_slot {
@@ -103,11 +102,11 @@ HVPM_INLINE uint32_t hvpm_pages_show(hvpm_machine *machine, hvpm_pages *pages, u
         if (!(sints >> sint & 1)) continue;
         const uint32_t status = hvpm_peek_slot(machine, pages->of, (uint8_t)sint, bytes);
         if (status != HVPM_STATUS_OK) return status;
-        memcpy(&type, bytes, sizeof type);
+        __builtin_memcpy(&type, bytes, sizeof type);
         if (type != 0) {
             slot->size = bytes[4];
-            memcpy(&slot->port, bytes + 8, sizeof slot->port);
-            memcpy(slot->payload, bytes + 16, sizeof slot->payload);
+            __builtin_memcpy(&slot->port, bytes + 8, sizeof slot->port);
+            __builtin_memcpy(slot->payload, bytes + 16, sizeof slot->payload);
             /* Atomic: the guest may still look for MessagePending of the message that it freed. */
             __atomic_store_n(&slot->flags, bytes[5], __ATOMIC_RELAXED);
         }
@@ -139,8 +138,8 @@ HVPM_INLINE uint32_t hvpm_pages_after(hvpm_machine *machine, hvpm_pages *pages, 
         return HVPM_STATUS_OK;
     if (is_new) { /* the processor was deleted, or created with SIMP and SIEFP disabled */
         pages->messages = NULL, pages->flags = NULL, pages->shown = 0, pages->freed = true;
-        memset(pages->raised, 0, sizeof pages->raised);
-        memset(pages->untaken, 0, sizeof pages->untaken);
+        __builtin_memset(pages->raised, 0, sizeof pages->raised);
+        __builtin_memset(pages->untaken, 0, sizeof pages->untaken);
         return HVPM_STATUS_OK;
     }
     for (size_t i = 0; i < 4; i++) pages->raised[i] |= effect->raised[i];
@@ -179,7 +178,7 @@ HVPM_INLINE uint32_t hvpm_pages_move(hvpm_machine *machine, hvpm_pages *pages, v
     uint32_t status = hvpm_pages_before(machine, pages);
     if (status == HVPM_STATUS_OK && messages != pages->messages) {
         pages->messages = (hvpm_slot *)messages, pages->shown = 0;
-        if (messages) memset(messages, 0, 4096);
+        if (messages) __builtin_memset(messages, 0, 4096);
         status = hvpm_pages_show(machine, pages, 0xFFFF);
     }
     if (status != HVPM_STATUS_OK || to == from) return status;
@@ -211,7 +210,7 @@ HVPM_INLINE uint32_t hvpm_pages_vector(hvpm_machine *machine, hvpm_pages *pages,
     const uint32_t status = hvpm_pages_make(machine, pages, HVPM_TAKE_INTERRUPT, 0, 0, &reply);
     if (status != HVPM_STATUS_OK) return status;
     *vector = reply.kind == HVPM_REPLY_SERVED ? reply.output[0] : 0;
-    if (*vector == 0) memset(pages->raised, 0, sizeof pages->raised);
+    if (*vector == 0) __builtin_memset(pages->raised, 0, sizeof pages->raised);
     pages->raised[*vector / 64] &= ~(UINT64_C(1) << *vector % 64);
     return HVPM_STATUS_OK;
 }

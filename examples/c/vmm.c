@@ -9,6 +9,7 @@
 #include <inttypes.h>
 #include <stdio.h>
 #include <stdlib.h>
+#include <string.h>
 
 enum {
     GUESTS = 2, PAGE = 4096, INPUT = 0x0000, MESSAGES = 0x1000, FLAGS = 0x2000, MEMORY = 0x3000,

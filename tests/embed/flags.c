@@ -9,6 +9,7 @@
 #include "hvpm_pages.h"
 #include <stdio.h>
 #include <stdlib.h>
+#include <string.h>
 
 enum { PAGE = 4096, GUESTS = 2, FLAGS = 2, LENGTH = 5 };
 enum { MSR_SCONTROL = 0x40000080, MSR_SIEFP = 0x40000082, MSR_SINT0 = 0x40000090 };

@@ -6,6 +6,7 @@
 #include "hvpm_guest.h"
 #include <stdio.h>
 #include <stdlib.h>
+#include <string.h>
 
 #define EACH(i, of) (size_t i = 0; i < sizeof of / sizeof *of; i++)
 
