@@ -32,9 +32,11 @@ pub fn each_event_is_of_what_it_is_about<A>()
         → AreLowEquivalent members f g }
 {}
 
-/// Two runs that are matched for the members give them the same replies and low-equivalent final states.
-/// Matched means that members do the same, that the same is done to them, and that they see the same where
-/// their events look outside. Whatever else others do in each run does not matter.
+/// Two runs that are matched for the members give them the same replies and low-equivalent final states. The
+/// runs begin in two states that runs from boot reach and that are low-equivalent for the members. Matched
+/// means that members do the same, and see the same where their events look outside. What others do to
+/// members comes at the same place in both runs, is served in both, and does the same to them. Whatever else
+/// others do in each run does not matter.
 #[tactic(auto, using(crate::proofs::MatchedRuns::replies_matched))]
 pub fn replies_are_of_what_members_do_and_is_done_to_them<A>()
     ensures { (members : ℕ → Bool) (turns : List (Turn A)) (f g : Flat) → IsReached A f
@@ -43,8 +45,8 @@ pub fn replies_are_of_what_members_do_and_is_done_to_them<A>()
 {}
 
 /// Removing the events of others from a run changes no reply to a member. This holds from any point of the
-/// run on, if none of these events does anything to a member and members see the same where their events look
-/// outside.
+/// run on, if none of these events changes what a member has, and members see the same where their events
+/// look outside, with these events and without them.
 pub fn events_of_others_do_not_show<A>()
     ensures { (members : ℕ → Bool) (events : List (Event A)) (f : Flat) → IsReached A f
         → AreMatched members (turns_of members events) f f
@@ -53,8 +55,8 @@ pub fn events_of_others_do_not_show<A>()
 {}
 
 /// Members look at nothing outside if their calls name only members and their connections lead to members. If
-/// the same is done to them, they get the same replies, whatever others do. Only a member that creates a
-/// partition sees the next id.
+/// the same is done to them, they get the same replies, whatever else others do. A member that creates a
+/// partition sees the next id, and whether it is too deep to create one.
 #[tactic(auto, using(crate::proofs::MembersOnly::replies_within))]
 pub fn a_closed_set_looks_at_nothing_outside<A>()
     ensures { (members : ℕ → Bool) (turns : List (Turn A)) (f g : Flat) → IsReached A f
