@@ -6,9 +6,9 @@ use Rattle.hv_calls.specs.declared.call.Call.{Call}
 use Rattle.hv_calls.specs.declared.call.Call.TheVariants.{CreatePartition, DeletePartition, SetPartitionProperty, DepositMemory, WithdrawMemory, PostMessage, SignalEvent}
 use Rattle.hv_defs.proofs.Maps.{get_at-insert}
 use Rattle.hv_policy.proofs.Rows.{get-narrowed}
-use Rattle.hv_policy.specs.Aim.{ResolvedPort, aim_of, flag_taker, message_taker}
+use Rattle.hv_policy.specs.Aim.{aim_of}
 use Rattle.hv_policy.specs.Count.{is_parent}
-use Rattle.hv_policy.specs.Effect.{call_effect, counted, given, mask_of, narrowed, narrowed_row, narrows, new_row, post_at, post_to, signal_at, signal_to, with_row}
+use Rattle.hv_policy.specs.Effect.{call_effect, counted, given, mask_of, narrowed, narrowed_row, narrows, new_row, post_to, signal_to, with_row}
 use Rattle.hv_policy.specs.Flat.{Flat, PartRow}
 use Rattle.hv_policy.specs.Met.{is_child, test_row}
 use Rattle.hv_policy.specs.Needs.{resolved_id, needs_of, target_of}
@@ -18,13 +18,13 @@ use Rattle.hv_policy.specs.Subtree.{is_in_subtree}
 use Rattle.hv_policy.specs.calls.{policy_of}
 use Rattle.hv_privs.specs.Privileges.{of}
 use Rattle.hv_privs.specs.declared.Privileges.{Privileges}
-use Rattle.hv_security.proofs.OtherRows.{nothing, once_counted}
+use Rattle.hv_security.proofs.OtherRows.{once_counted}
 use Rattle.hv_security.proofs.OthersUnchanged.{call_misses, part_changed}
 use Rattle.hv_security.proofs.CallerAndChildren.{far_apart, kin_relative}
 use Rattle.hv_security.proofs.AgreedReads.{caller_relative}
 use Rattle.hv_security.proofs.SendChanges.{posted_confined, signalled_confined}
-use Rattle.hv_security.specs.Integrity.{IntegrityWithin, CallerAndChildren, AndMasks, reach_of_call, reach_through, reach_to}
-use Rattle.hv_security.specs.Misses.{UnlessReading}
+use Rattle.hv_security.specs.Integrity.{IntegrityWithin, CallerAndChildren, AndMasks, reach_of_call}
+use Rattle.hv_security.specs.Misses.{Misses, UnlessReading}
 use Rattle.hv_security.specs.Same.{HasSame, HasSameButMask, is_relative}
 
 -- what holds of every call holds unless a call only reads
@@ -51,46 +51,37 @@ module _ (f : Flat) (caller : ℕ) where
     off_target : (call : Call) → IsAllowed f caller call → id == target_of call caller ≡ false
     off_target call a = far_apart f caller id (target_of call caller) far (kin_relative (needs_of call).kin f caller (target_of call caller) a.target.1.1.0)
 
-    -- a post and a signal that lead nowhere
-    nowhere : (aim : ResolvedPort) (at : Option ℕ → Flat) → HasSame id f (at None) → (vp : Option ℕ) → reach_to aim vp ≡ CallerAndChildren → HasSame id f (at vp)
-    nowhere aim at same None none = same
-    nowhere aim at same (Some vp) none = cc
-
-    unposted : (aim : Option ResolvedPort) (type : ℕ) (payload : List ℕ) → reach_through (message_taker f) aim ≡ CallerAndChildren → HasSame id f (post_to aim type payload f)
-    unposted None type payload none = nothing id f
-    unposted (Some aim) type payload none = nowhere aim (λ vp. post_at aim vp type payload f) (nothing id f) (message_taker f aim) none
-
-    unsignalled : (aim : Option ResolvedPort) (flag : ℕ) → reach_through (flag_taker f) aim ≡ CallerAndChildren → HasSame id f (signal_to aim flag f)
-    unsignalled None flag none = nothing id f
-    unsignalled (Some aim) flag none = nowhere aim (λ vp. signal_at aim vp flag f) (nothing id f) (flag_taker f aim) none
-
     -- a property that narrows nothing
     unnarrowed : (b : Bool) (target : ℕ) (value : Privileges) → cond b (AndMasks target value) CallerAndChildren ≡ CallerAndChildren → b ≡ false
     unnarrowed true target value none = cc
     unnarrowed false target value none = refl
 
     -- a call that reaches no further than relatives isn't about anyone else
+    missed : (call : Call) → IsAllowed f caller call → Misses call caller f id → HasSame id f (counted (call_effect call f caller (target_of call caller)))
+    missed call a misses = once_counted id f (call_effect call f caller (target_of call caller)) (call_misses f id caller call a misses)
+
     call_apart : (call : Call) → IsAllowed f caller call → reach_of_call f caller call ≡ CallerAndChildren → is_relative (call_effect call f caller (target_of call caller)) caller id ≡ false → HasSame
-        id f (call_effect call f caller (target_of call caller))
+        id f (counted (call_effect call f caller (target_of call caller)))
     call_apart (CreatePartition flags) a none still =
-        call_misses f id caller (CreatePartition flags) a (new_apart id (new_row caller (mask_of (get f.part caller))) refl still)
-    call_apart (DeletePartition partition) a none still =
-        call_misses f id caller (DeletePartition partition) a (off_target (DeletePartition partition) a, off_caller)
+        missed (CreatePartition flags) a (new_apart id (new_row caller (mask_of (get f.part caller))) refl still)
+    call_apart (DeletePartition partition) a none still = missed (DeletePartition partition) a (off_target (DeletePartition partition) a, off_caller)
     call_apart (SetPartitionProperty partition code value) a none still =
         let narrowing = narrows (property_of code) f (resolved_id caller partition) in
         let never : narrowing ≡ false = unnarrowed narrowing (resolved_id caller partition) (of value) none in
-        call_misses f id caller (SetPartitionProperty partition code value) a (off_target (SetPartitionProperty partition code value) a, λ is. (let clash = sym is ∙ never in cc))
-    call_apart (DepositMemory partition page) a none still =
-        call_misses f id caller (DepositMemory partition page) a (off_target (DepositMemory partition page) a, off_caller)
-    call_apart (WithdrawMemory partition) a none still =
-        call_misses f id caller (WithdrawMemory partition) a (off_target (WithdrawMemory partition) a, off_caller)
-    call_apart (PostMessage connection message_type payload) a none still = unposted (aim_of f (caller, connection)) message_type payload none
-    call_apart (SignalEvent connection flag) a none still = unsignalled (aim_of f (caller, connection)) flag none
-    call_apart call a none still = call_misses f id caller call a (unless_reading (policy_of call).effect _ (off_target call a))
+        missed (SetPartitionProperty partition code value) a (off_target (SetPartitionProperty partition code value) a, λ is. (let clash = sym is ∙ never in cc))
+    call_apart (DepositMemory partition page) a none still = missed (DepositMemory partition page) a (off_target (DepositMemory partition page) a, off_caller)
+    call_apart (WithdrawMemory partition) a none still = missed (WithdrawMemory partition) a (off_target (WithdrawMemory partition) a, off_caller)
+    call_apart (PostMessage connection message_type payload) a none still =
+        subst (λ to. IntegrityWithin to caller f (counted (post_to (aim_of f (caller, connection)) message_type payload f))) none
+        (posted_confined (aim_of f (caller, connection)) message_type payload f caller a.further.1.0 a.further.1.1.1.0) id (record { before = far; after = still })
+    call_apart (SignalEvent connection flag) a none still =
+        subst (λ to. IntegrityWithin to caller f (counted (signal_to (aim_of f (caller, connection)) flag f))) none
+        (signalled_confined (aim_of f (caller, connection)) flag f caller a.further.1.0 a.further.1.1.1.0) id (record { before = far; after = still })
+    call_apart call a none still = missed call a (unless_reading (policy_of call).effect _ (off_target call a))
 
   call_stays : (call : Call) → IsAllowed f caller call → reach_of_call f caller call ≡ CallerAndChildren → IntegrityWithin CallerAndChildren caller f
       (counted (call_effect call f caller (target_of call caller)))
-  call_stays call a none id apart = once_counted id f (call_effect call f caller (target_of call caller)) (call_apart id apart.before call a none apart.after)
+  call_stays call a none id apart = call_apart id apart.before call a none apart.after
 
   -- a mask that narrows a subtree
   masks_confined : (target : ℕ) (value : Privileges) → IntegrityWithin (AndMasks target value) caller f (counted (record f { part = narrowed f target value }))
@@ -138,8 +129,8 @@ module _ (f : Flat) (caller : ℕ) where
 
   -- a served call
   pub call_confined : (call : Call) → IsAllowed f caller call → IntegrityWithin (reach_of_call f caller call) caller f (counted (call_effect call f caller (target_of call caller)))
-  call_confined (PostMessage connection message_type payload) a = posted_confined (aim_of f (caller, connection)) message_type payload f caller
-  call_confined (SignalEvent connection flag) a = signalled_confined (aim_of f (caller, connection)) flag f caller
+  call_confined (PostMessage connection message_type payload) a = posted_confined (aim_of f (caller, connection)) message_type payload f caller a.further.1.0 a.further.1.1.1.0
+  call_confined (SignalEvent connection flag) a = signalled_confined (aim_of f (caller, connection)) flag f caller a.further.1.0 a.further.1.1.1.0
   call_confined (SetPartitionProperty partition code value) a = set_confined partition code value a
   call_confined (CreatePartition flags) a = call_stays (CreatePartition flags) a refl
   call_confined call a = call_stays call a refl

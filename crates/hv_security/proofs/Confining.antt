@@ -23,7 +23,7 @@ use Rattle.hv_security.specs.Same.{is_relative}
 -- where nothing changes
 pub unchanged : (to : Reach) (caller : ℕ) (f : Flat) → IntegrityWithin to caller f f
 unchanged CallerAndChildren caller f = λ id apart. nothing id f
-unchanged (AndPlace at) caller f = (
+unchanged (AndPlace at gain) caller f = (
   λ id apart. record {
     part = refl;
     pages = λ _. refl;
@@ -34,7 +34,7 @@ unchanged (AndPlace at) caller f = (
     conns = λ _. refl;
     mail = λ _ _ _. refl;
   },
-  gains_nothing at f,
+  gains_nothing at gain f,
 )
 unchanged (AndMasks top value) caller f = (
   λ id apart outside. nothing id f,

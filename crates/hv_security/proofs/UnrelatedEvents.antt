@@ -28,7 +28,7 @@ same_elsewhere at id f g off s = record {
 -- what is confined leaves a partition that is no relative, and that it doesn't reach
 stays : (to : Reach) (caller id : ℕ) (f g : Flat) → IntegrityWithin to caller f g → IsNoRelative caller id f g → ReachesPast to id f → HasSame id f g
 stays CallerAndChildren caller id f g c apart past = c id apart
-stays (AndPlace at) caller id f g c apart past = same_elsewhere at id f g (by (id == at.part) refl) (c.0 id apart)
+stays (AndPlace at gain) caller id f g c apart past = same_elsewhere at id f g (by (id == at.part) refl) (c.0 id apart)
   where
     by : (b : Bool) → id == at.part ≡ b → b ≡ false
     by true is = absurd (past (eqb-true id at.part is))

@@ -12,7 +12,7 @@ use Rattle.hv_security.specs.Same.{is_relative}
 -- the reach of an event, beyond its caller's relatives, does not include a partition
 abbrev pub ReachesPast : Reach → ℕ → Flat → Type 0
 ReachesPast CallerAndChildren id f = Unit {0}
-ReachesPast (AndPlace at) id f = (id ≡ at.part) → ⊥
+ReachesPast (AndPlace at gain) id f = (id ≡ at.part) → ⊥
 ReachesPast (AndMasks top value) id f = is_in_subtree f top id ≡ false
 
 -- an event that leads from `f` to `g` is unrelated to a partition: none of the partition's relatives is a

@@ -17,7 +17,9 @@ ghost use Rattle.hv_security.specs.Unrelated.{AreUnrelated};
 /// There are two exceptions:
 ///
 /// - A post or a signal may add to the SINT at which its connection's port aims, at the processor that takes
-///   it. It removes nothing there.
+///   it. A post adds its message behind all others, and no flag. A signal adds no message, and only its own
+///   flag, which is one of the port's. Nothing goes there: a shown message stays shown. Either may raise the
+///   vector of that SINT, and no other.
 /// - A mask that is given to an Active child also restricts the masks of all descendants of that child.
 #[tactic(auto, using(crate::proofs::Confining::confined))]
 pub fn each_event_is_confined<A>()
