@@ -1,5 +1,6 @@
 -- What a write of EOM tells.
-use Rattle.std.proofs.Common.{◌≡◌, ℕ, zero, suc, ◌<◌, ◌==◌, ◌&&◌, ◌||◌, not, nat_lt, is_some, Bool, true, false, cond, List, [], ◌∷◌, Option, Some, None, refl, sym, ap}
+use Rattle.std.proofs.Common.{◌≡◌, ℕ, zero, suc, ◌==◌, ◌&&◌, ◌||◌, not, nat_lt, is_some, Bool, true, false}
+use Rattle.std.proofs.Common.{cond, List, [], ◌∷◌, Option, Some, None, refl, sym, ap}
 use Rattle.std.proofs.Common.{subst, ◌∙◌, arith, eqb-true, option_map, nat_cmp}
 use Rattle.std.proofs.lemmas.Bool.{cond-true}
 use Rattle.std.specs.FinMap.{FinMap, get}
@@ -17,25 +18,13 @@ use Rattle.hv_policy.specs.Flat.{Flat, MailRow, VpRow}
 use Rattle.hv_policy.specs.Mail.{Place, has_next, is_shown, is_some_row, mail_at}
 use Rattle.hv_effect.proofs.PostEffect.{found, next_shows}
 use Rattle.hv_effect.proofs.ProcessorChange.{itself, moved, no_bit, none_raised, raised_both, row_told, there}
-use Rattle.hv_effect.specs.Effect.{IsChange, IsSo, IsSynic, Tells, names_messages, names_vector, has_bit, quiet}
-use Rattle.hv_effect.specs.Ended.{ended_effect, vectors_of}
+use Rattle.hv_effect.proofs.RaisedVectors.{still_shown, vectors_none, vectors_same}
+use Rattle.hv_effect.specs.Effect.{IsChange, IsSo, IsSynic, Tells, names_messages, names_vector, has_bit, quiet, rings}
+use Rattle.hv_effect.specs.Ended.{ended_effect}
+use Rattle.hv_effect.specs.Raised.{registers_of, vectors_of}
 use Rattle.hv_effect.specs.declared.effect.Effect.{Effect}
 use Rattle.hv_effect.specs.declared.effect.Effect.TheVariants as variant
 use Rattle.hv_effect.specs.declared.effect.Synic.{Synic}
-
--- vectors of tests that agree, and of none
-vectors_same : (t u : ℕ → Bool) (registers : FinMap nat_cmp ℕ) (n : ℕ) → ((k : ℕ) → k < n → t k ≡ u k) → vectors_of t registers n ≡ vectors_of u registers n
-unfolding vectors_of
-vectors_same t u registers zero same = refl
-vectors_same t u registers (suc n) same =
-    let rest = vectors_same t u registers n (λ k less. same k (omega arith)) in
-    let here = same n (omega arith) in
-    λ i. cond (here i) (raised registers n (rest i)) (rest i)
-
-vectors_none : (t : ℕ → Bool) (registers : FinMap nat_cmp ℕ) (n vector : ℕ) → ((k : ℕ) → t k ≡ false) → set.contains (vectors_of t registers n) vector ≡ false
-unfolding vectors_of
-vectors_none t registers zero vector none = none_raised vector
-vectors_none t registers (suc n) vector none = grind (arith, none n, vectors_none t registers n vector none)
 
 -- a row once each of the first SINTs that passes a test raised its vector
 raised_each : (ℕ → Bool) → ℕ → VpRow → VpRow
@@ -178,20 +167,29 @@ module _ (part vp value : ℕ) (f : Flat) where
         (λ u at vector off. (let same : v ≡ u = cc in subst (λ u. set.contains (row_now ready u).pending vector ≡ set.contains u.pending vector) same
         (ap (λ (w : VpRow). set.contains w.pending vector) made ∙ vectors_now vector ∙ ap (λ b. b || set.contains v.pending vector) (vectors vector off))))
 
+    -- these SINTs showed none, and no other one begins to
+    rings_now : (k : ℕ) (b : Bool) → has_bit mask k ≡ b → b ≡ rings told f (now ready) k
+    rings_now k true h = sym (ap (λ b. (b && not (list_any is_shown (mail_at (place part vp k) f.mail))) || false) (shown_now k h) ∙ grind (arith, bit k))
+    rings_now k false h = sym (ap (λ b. b || false) (still_shown part vp f (now ready) k (messages (place part vp k) (grind (arith, h, itself part vp)))))
+
     named : IsSynic told f (now ready)
     named = record {
       shown = λ sint h same. (let clash : true ≡ false = sym (shown_now sint h) ∙ sym (found (mail_at (place part vp sint) (now ready).mail)) ∙ ap is_some same
           ∙ found (mail_at (place part vp sint) f.mail) ∙ grind (arith, bit sint) in cc);
       waiting = λ sint h. cc;
       flag = λ change h. cc;
-      raised = λ vector h. ap (λ r. has_vector r vector) is ∙ vectors_now vector ∙ ap (λ b. b || set.contains v.pending vector) h;
+      raised = vectors_same (has_bit mask) (rings told f (now ready)) w.registers SINTS (λ k less. rings_now k (has_bit mask k) refl)
+          ∙ ap (λ r. vectors_of (rings told f (now ready)) (registers_of r) SINTS) (sym is);
+      pending = λ vector h. ap (λ r. has_vector r vector) is ∙ vectors_now vector ∙ ap (λ b. b || set.contains v.pending vector) h;
       taken = λ vector h. cc;
       freed = λ port h. cc;
       left = λ sint message h was gone. (let clash : true ≡ false = sym (shown_now sint h) ∙ sym (found (mail_at (place part vp sint) (now ready).mail)) ∙ ap is_some gone in cc);
     }
 
     told_by : (b : Bool) → mask == 0 ≡ b → Tells (cond b variant.Nothing (variant.Synic told)) f (now ready)
-    told_by true none = tells variant.Nothing (λ at _. grind (arith, clear at.sint)) (λ vector _. vectors_none (has_bit mask) w.registers SINTS vector clear) tt tt
+    told_by true none =
+        tells variant.Nothing (λ at _. grind (arith, clear at.sint))
+        (λ vector _. ap (λ vectors. set.contains vectors vector) (sym (vectors_none (has_bit mask) w.registers SINTS (λ k less. clear k))) ∙ none_raised vector) tt tt
       where
         clear : (k : ℕ) → has_bit mask k ≡ false
         clear k = ap (λ mask. has_bit mask k) (eqb-true mask 0 none) ∙ no_bit k

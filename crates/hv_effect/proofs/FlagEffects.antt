@@ -1,14 +1,18 @@
 -- What a signal and a cleared flag tell.
-use Rattle.std.proofs.Common.{◌≡◌, ℕ, ◌==◌, ◌&&◌, ◌||◌, not, Bool, true, false, cond, Some, refl, sym, ap, subst, ◌∙◌, option_map, arith}
+use Rattle.std.proofs.Math.Bool.{and-false, and-true}
+use Rattle.std.proofs.Common.{◌≡◌, ℕ, ◌<◌, ◌==◌, ◌&&◌, ◌||◌, not, Bool, true, false, cond, Some, refl, sym, ap, subst, ◌∙◌, option_map, arith}
 use Rattle.std.specs.FinMap.{get}
 use Rattle.std.specs.FinSet as set
 use Rattle.hv_policy.specs.Reading.{has_flag, has_vector}
 use Rattle.hv_defs.specs.Vectors.{VectorSet, raised}
+use Rattle.hv_defs.specs.declared.sizes.TheConstants.{SINTS}
 use Rattle.hv_policy.proofs.Pairs.{pair_cmp_total}
 use Rattle.hv_policy.specs.Effect.{row_signalled, with_vp}
 use Rattle.hv_policy.specs.Flat.{Flat, VpRow}
 use Rattle.hv_effect.proofs.ProcessorChange.{itself, moved, no_bit, no_vectors, none_raised, pair_tied, raised_both, row_told, there, there_itself}
-use Rattle.hv_effect.specs.Effect.{IsSynic, IsTurned, Tells, quiet}
+use Rattle.hv_effect.proofs.RaisedVectors.{still_shown, vectors_none, vectors_one, vectors_same}
+use Rattle.hv_effect.specs.Effect.{IsSynic, IsTurned, Tells, quiet, rings}
+use Rattle.hv_effect.specs.Raised.{registers_of, vectors_of}
 use Rattle.hv_effect.specs.declared.effect.Effect.TheVariants as variant
 use Rattle.hv_effect.specs.declared.effect.FlagChange.{FlagChange}
 use Rattle.hv_effect.specs.declared.effect.Synic.{Synic}
@@ -36,8 +40,9 @@ module _ (part vp sint flag : ℕ) (f : Flat) (v : VpRow) (is : get f.vp (part, 
         (λ w at s n _. (let same : v ≡ w = cc in grind (arith, flags_now s n, moved (λ s n. set.contains v.flags (s, n)) s n sint flag)))
         (λ w at vector _. (let same : v ≡ w = cc in grind (arith, vectors_now vector, none vector))) tt tt
 
-    turns : set.contains v.flags (sint, flag) ≡ not value → Tells (variant.Synic turning) f changed
-    turns other =
+    turns : (h v).registers ≡ v.registers → vectors ≡ vectors_of (λ k. (k == sint) && value) v.registers SINTS → set.contains v.flags (sint, flag) ≡ not value
+        → Tells (variant.Synic turning) f changed
+    turns registers its other =
         row_told (variant.Synic turning) part vp h f changed refl (there f.vp part vp h) (λ at _. refl)
         (λ w at s n off. (let same : v ≡ w = cc in grind (arith, flags_now s n, itself part vp)))
         (λ w at vector off. (let same : v ≡ w = cc in grind (arith, vectors_now vector, itself part vp))) named refl
@@ -53,7 +58,10 @@ module _ (part vp sint flag : ℕ) (f : Flat) (v : VpRow) (is : get f.vp (part, 
           shown = λ s h. cc (no_bit s);
           waiting = λ s h. cc;
           flag = λ other h. (let same : change ≡ other = cc in subst (λ change. IsTurned turning change f changed) same turned);
-          raised = λ vector h. ap (λ r. has_vector r vector) now ∙ vectors_now vector ∙ ap (λ b. b || set.contains v.pending vector) h;
+          raised = its ∙ vectors_same (λ k. (k == sint) && value) (rings turning f changed) v.registers SINTS
+              (λ k less. sym (ap (λ b. b || ((k == sint) && value)) (still_shown part vp f changed k refl)))
+              ∙ ap (λ registers. vectors_of (rings turning f changed) registers SINTS) (sym (ap registers_of now ∙ registers));
+          pending = λ vector h. ap (λ r. has_vector r vector) now ∙ vectors_now vector ∙ ap (λ b. b || set.contains v.pending vector) h;
           taken = λ vector h. cc;
           freed = λ port h. cc;
           left = λ s message h was gone. cc (no_bit s);
@@ -76,10 +84,11 @@ module _ (part vp sint flag : ℕ) (f : Flat) (v : VpRow) (is : get f.vp (part, 
   abbrev told : Synic
   told = record (quiet part vp) { flag = Some (record { sint = sint; flag = flag; is_set = true }); raised = raised v.registers sint no_vectors }
 
-  pub signal_turns : set.contains v.flags (sint, flag) ≡ false → Tells (variant.Synic told) f signalled
-  signal_turns clear =
+  pub signal_turns : sint < SINTS → set.contains v.flags (sint, flag) ≡ false → Tells (variant.Synic told) f signalled
+  signal_turns low clear =
       turns true told.raised (row_signalled sint flag) signal_flags
-      (λ vector. ap (λ b. set.contains (cond (not b) (raised v.registers sint v.pending) v.pending) vector) clear ∙ raised_both v.registers sint v.pending vector) clear
+      (λ vector. ap (λ b. set.contains (cond (not b) (raised v.registers sint v.pending) v.pending) vector) clear ∙ raised_both v.registers sint v.pending vector) refl
+      (vectors_one (λ k. (k == sint) && true) v.registers sint SINTS low (λ k less. and-true (k == sint))) clear
 
   -- a flag is cleared that is clear, or that is set
   abbrev clear_it : VpRow → VpRow
@@ -101,4 +110,6 @@ module _ (part vp sint flag : ℕ) (f : Flat) (v : VpRow) (is : get f.vp (part, 
   told_clear = record (quiet part vp) { flag = Some (record { sint = sint; flag = flag; is_set = false }) }
 
   pub clear_turns : set.contains v.flags (sint, flag) ≡ true → Tells (variant.Synic told_clear) f cleared
-  clear_turns set_there = turns false no_vectors clear_it clear_flags clear_vectors set_there
+  clear_turns set_there =
+      turns false no_vectors clear_it clear_flags clear_vectors refl
+      (vectors_none (λ k. (k == sint) && false) v.registers SINTS (λ k less. and-false (k == sint))) set_there

@@ -3,4 +3,6 @@ pub mod PagesAndVps
 pub mod PostEffect
 pub mod ProcessorChange
 pub mod FlagEffects
+pub mod RaisedVectors
 pub mod SlotAndVectorEffects
+pub mod Unchanged

@@ -4,6 +4,8 @@ use Rattle.std.specs.FinMap.{FinMap, contains_key, entries, from_entries, get, g
 use Rattle.std.specs.FinSet as set
 use Rattle.hv_policy.specs.Mail.{place}
 use Rattle.hv_policy.specs.Reading.{has_flag, has_vector}
+use Rattle.std.specs.Option.{option_map_or}
+use Rattle.hv_defs.specs.declared.life.Life.TheVariants.{Active, Finalized}
 use Rattle.hv_defs.proofs.Maps.{get-mapped, get_at-insert}
 use Rattle.hv_defs.specs.Flags.{pair_cmp}
 use Rattle.hv_policy.proofs.Pairs.{pair_cmp_total}
@@ -14,7 +16,7 @@ use Rattle.hv_policy.specs.Effect.{inherited, rows_but, with_vp, written}
 use Rattle.hv_policy.specs.Flat.{Flat, PageRow, PartRow, PortRow, ConnRow, VpRow}
 use Rattle.hv_policy.specs.Mail.{Place, mail_at, mail_but, mail_but_at}
 use Rattle.hv_effect.proofs.ProcessorChange.{itself, pair_tied, row_told, rows_told, there}
-use Rattle.hv_effect.specs.Effect.{HasNothing, HasPage, HasProcessor, Tells, was_of}
+use Rattle.hv_effect.specs.Effect.{HasNothing, HasPage, HasProcessor, Tells, life_of, was_of}
 use Rattle.hv_effect.specs.declared.effect.Effect.TheVariants as variant
 
 -- a processor without messages and without a row has nothing
@@ -37,12 +39,13 @@ module _ (f : Flat) where
   page_stays from to None off = refl
   page_stays from to (Some row) off = ap (λ b. Some (cond b (record { owner = to; pooled = false }) row)) off
 
-  -- a page gets an owner
-  pub page_told : (page owner : ℕ) (pooled : Bool) → get f.page page ≢ Some (record { owner = owner; pooled = pooled })
+  -- a page gets an owner, and its former one still exists
+  pub page_told : (page owner : ℕ) (pooled : Bool) → option_map_or (λ row. contains_key f.part row.owner) (get f.page page) false ≡ true
+      → get f.page page ≢ Some (record { owner = owner; pooled = pooled })
       → Tells (variant.Page page owner pooled) f (record f { page = insert f.page page (record { owner = owner; pooled = pooled }) })
-  page_told page owner pooled apart =
+  page_told page owner pooled kept apart =
       rows_told (variant.Page page owner pooled) f _ (λ at _. refl) (λ id index _. refl) (λ q off. get_at-insert f.page page row q ∙ ap (λ b. cond b (Some row) (get f.page q)) off)
-      (get_at-insert f.page page row page ∙ ap (λ b. cond b (Some row) (get f.page page)) (eq-eqb page page refl)) apart
+      (record { now = get_at-insert f.page page row page ∙ ap (λ b. cond b (Some row) (get f.page page)) (eq-eqb page page refl); owner = kept }) apart
     where
       row : PageRow
       row = record { owner = owner; pooled = pooled }
@@ -51,10 +54,12 @@ module _ (f : Flat) where
   abbrev pub passed_on : ℕ → ℕ → FinMap nat_cmp PartRow → Flat
   passed_on from to part = record f { part = part; page = from_entries (map (λ e. (e.0, inherited from to e.1)) (entries f.page)) }
 
-  pub pages_told : (from to : ℕ) (part : FinMap nat_cmp PartRow) → HasPage from f → from ≢ to → Tells (variant.Pages from to) f (passed_on from to part)
-  pages_told from to part some apart =
+  pub pages_told : (from to : ℕ) (part : FinMap nat_cmp PartRow) → contains_key part from ≡ false → HasPage from f → from ≢ to
+      → Tells (variant.Pages from to) f (passed_on from to part)
+  pages_told from to part gone some apart =
       rows_told (variant.Pages from to) f (passed_on from to part) (λ at _. refl) (λ id index _. refl)
-      (λ q off. get-mapped (inherited from to) f.page q ∙ page_stays from to (get f.page q) off) (λ q was. get-mapped (inherited from to) f.page q ∙ moved (get f.page q) was) (some, apart)
+      (λ q off. get-mapped (inherited from to) f.page q ∙ page_stays from to (get f.page q) off)
+      (record { gone = gone; pages = λ q was. get-mapped (inherited from to) f.page q ∙ moved (get f.page q) was }) (some, apart)
     where
       moved : (r : Option PageRow) → was_of from r ≡ true → option_map (inherited from to) r ≡ Some (record { owner = to; pooled = false })
       moved None was = cc
@@ -73,8 +78,11 @@ module _ (f : Flat) where
     made_row : (id index : ℕ) (b : Bool) → (id == part) && (index == vp) ≡ b → get made.vp (id, index) ≡ cond b (Some (start_vp vp)) (get f.vp (id, index))
     made_row id index b is = get-insert pair_cmp_total f.vp (part, vp) (start_vp vp) (id, index) ∙ ap (λ b. cond b (Some (start_vp vp)) (get f.vp (id, index))) (pair_tied id index part vp ∙ is)
 
-    pub made_told : ((sint : ℕ) → mail_at (place part vp sint) f.mail ≡ []) → contains_key f.vp (part, vp) ≡ false → Tells (variant.Processor part vp) f made
-    made_told none free = rows_told (variant.Processor part vp) f made (λ at _. refl) (λ id index off. made_row id index false off) (λ page _. refl) nothing (ap is_some new ∙ sym (ap not free))
+    pub made_told : life_of f part ≡ Some Active → ((sint : ℕ) → mail_at (place part vp sint) f.mail ≡ [])
+        → contains_key f.vp (part, vp) ≡ false → Tells (variant.Processor part vp) f made
+    made_told active none free =
+        rows_told (variant.Processor part vp) f made (λ at _. refl) (λ id index off. made_row id index false off) (λ page _. refl)
+        (record { life = active; nothing = nothing }) (ap is_some new ∙ sym (ap not free))
       where
         new : get made.vp (part, vp) ≡ Some (start_vp vp)
         new = made_row part vp true (itself part vp)
@@ -93,10 +101,11 @@ module _ (f : Flat) where
     deleted_row : (id index : ℕ) (b : Bool) → (id == part) && (index == vp) ≡ b → get deleted.vp (id, index) ≡ cond b None (get f.vp (id, index))
     deleted_row id index b is = get-remove pair_cmp_total f.vp (part, vp) (id, index) ∙ ap (λ b. cond b None (get f.vp (id, index))) (pair_tied id index part vp ∙ is)
 
-    pub deleted_told : contains_key f.vp (part, vp) ≡ true → Tells (variant.Processor part vp) f deleted
-    deleted_told there =
+    pub deleted_told : life_of f part ≡ Some Active → contains_key f.vp (part, vp) ≡ true → Tells (variant.Processor part vp) f deleted
+    deleted_told active there =
         rows_told (variant.Processor part vp) f deleted (λ at off. but_vp_there part vp at false off f.mail) (λ id index off. deleted_row id index false off) (λ page _. refl)
-        (left_without part vp deleted (λ sint. but_vp_there part vp (place part vp sint) true (itself part vp) f.mail) gone) (ap is_some gone ∙ sym (ap not there))
+        (record { life = active; nothing = left_without part vp deleted (λ sint. but_vp_there part vp (place part vp sint) true (itself part vp) f.mail) gone })
+        (ap is_some gone ∙ sym (ap not there))
       where
         gone : get deleted.vp (part, vp) ≡ None
         gone = deleted_row part vp true (itself part vp)
@@ -109,10 +118,15 @@ module _ (f : Flat) where
     ended_row : (other index : ℕ) (b : Bool) → other == id ≡ b → get ended.vp (other, index) ≡ cond (not b) (get f.vp (other, index)) None
     ended_row other index b is = get-rows_but f.vp id (other, index) ∙ ap (λ b. cond (not b) (get f.vp (other, index)) None) is
 
-    pub finalized_told : HasProcessor id f → Tells (variant.Partition id) f ended
-    finalized_told some =
+    pub finalized_told : option_map (λ row. row.life) (get part id) ≡ Some Finalized → HasProcessor id f → Tells (variant.Partition id) f ended
+    finalized_told life some =
         rows_told (variant.Partition id) f ended (λ at off. but_part_there id at false off f.mail) (λ other index off. ended_row other index false off) (λ page _. refl)
-        (λ vp. left_without id vp ended (λ sint. but_part_there id (place id vp sint) true (eq-eqb id id refl) f.mail) (ended_row id vp true (eq-eqb id id refl))) some
+        (record {
+          life = life;
+          gone = λ vp. ap is_some (ended_row id vp true (eq-eqb id id refl));
+          nothing = λ vp. left_without id vp ended
+              (λ sint. but_part_there id (place id vp sint) true (eq-eqb id id refl) f.mail) (ended_row id vp true (eq-eqb id id refl));
+        }) some
 
     -- and where it has no processor
     pub none_finalized : ((vp : ℕ) → contains_key f.vp (id, vp) ≡ false) → ((vp sint : ℕ) → mail_at (place id vp sint) f.mail ≡ []) → Tells variant.Nothing f ended

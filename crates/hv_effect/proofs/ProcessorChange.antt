@@ -155,16 +155,18 @@ once_counted e f g t = record {
     by variant.Nothing h = tt
     by (variant.Synic s) h = record {
       shown = h.shown;
-      waiting = λ sint is. (let w = h.waiting sint is in record { message = w.message; waits = w.waits; last = w.last });
+      waiting = λ sint is. (let w = h.waiting sint is in record { behind = w.behind; message = w.message; waits = w.waits; last = w.last });
       flag = λ change is. (let w = h.flag change is in record { before = w.before; now = w.now });
       raised = h.raised;
+      pending = h.pending;
       taken = λ vector is. (let w = h.taken vector is in record { highest = w.highest; before = w.before; now = w.now });
       freed = λ port is. (let w = h.freed port is in record { sint = w.sint; message = w.message; before = w.before; by = w.by; now = w.now });
       left = h.left;
     }
-    by (variant.Processor part vp) h = nothing part vp h
-    by (variant.Partition part) h = λ vp. nothing part vp (h vp)
-    by e h = h
+    by (variant.Page page owner pooled) h = record { now = h.now; owner = h.owner }
+    by (variant.Pages from to) h = record { gone = h.gone; pages = h.pages }
+    by (variant.Processor part vp) h = record { life = h.life; nothing = nothing part vp h.nothing }
+    by (variant.Partition part) h = record { life = h.life; gone = h.gone; nothing = λ vp. nothing part vp (h.nothing vp) }
 
 -- an effect that does not name a processor's flags or vectors does not name the processor
 unnamed_by_flag : (e : Effect) (at : Place) (flag : ℕ) → names_flag e at flag ≡ false → names_processor e at.part at.vp ≡ false

@@ -1,6 +1,6 @@
 -- What a cleared slot and a taken vector tell.
 use Rattle.std.proofs.Common.{◌≡◌, ℕ, zero, suc, ◌%◌, ◌^◌, ◌==◌, ◌&&◌, ◌||◌, not, Bool, true, false, List, [], ◌∷◌, find, Some, None, refl, sym, ap, subst, ◌∙◌}
-use Rattle.std.proofs.Common.{eq-eqb, filter, option_map, arith}
+use Rattle.std.proofs.Common.{eq-eqb, eqb-true, filter, option_map, arith}
 use Rattle.std.specs.Cmp.{nat_cmp_total, unsigned_tied}
 use Rattle.std.specs.FinMap.{get}
 use Rattle.std.specs.FinSet as set
@@ -12,9 +12,11 @@ use Rattle.hv_policy.proofs.Places.{cleared_apart, cleared_there, is_place, is_p
 use Rattle.hv_policy.specs.Answer.{vector_of}
 use Rattle.hv_policy.specs.Effect.{with_vp}
 use Rattle.hv_policy.specs.Flat.{Flat, MailRow, VpRow}
-use Rattle.hv_policy.specs.Mail.{Place, cleared, is_shown, mail_at, shown_at}
+use Rattle.hv_policy.specs.Mail.{Place, cleared, is_shown, mail_at, place, shown_at}
 use Rattle.hv_effect.proofs.ProcessorChange.{itself, no_bit, none_raised, row_told, rows_told, shown_of, some_bit, there, there_itself}
+use Rattle.hv_effect.proofs.RaisedVectors.{none_rings, still_shown}
 use Rattle.hv_effect.specs.Effect.{IsSynic, IsTaken, Tells, has_bit, quiet}
+use Rattle.hv_effect.specs.Raised.{became_shown}
 use Rattle.hv_effect.specs.declared.effect.Effect.TheVariants as variant
 use Rattle.hv_effect.specs.declared.effect.Synic.{Synic}
 
@@ -26,6 +28,10 @@ all_wait (row ∷ rows) none = grind (arith, all_wait rows)
 none_left : (rows : List MailRow) → find is_shown (filter (λ row. not row.shown) rows) ≡ None
 none_left [] = refl
 none_left (row ∷ rows) = grind (arith, none_left rows)
+
+none_any : (rows : List MailRow) → list_any is_shown (filter (λ row. not row.shown) rows) ≡ false
+none_any [] = refl
+none_any (row ∷ rows) = grind (arith, none_any rows)
 
 module _ (at_slot : Place) (f : Flat) where
   abbrev rows : List MailRow
@@ -55,6 +61,14 @@ module _ (at_slot : Place) (f : Flat) where
       now : shown_at at_slot slot_cleared.mail ≡ None
       now = ap (find is_shown) (cleared_there at_slot f.mail) ∙ none_left rows
 
+      -- no SINT shows a message that showed none
+      by_place : (k : ℕ) (b : Bool) → k == at_slot.sint ≡ b → became_shown at_slot.part at_slot.vp f slot_cleared k ≡ false
+      by_place k true here =
+          subst (λ k. became_shown at_slot.part at_slot.vp f slot_cleared k ≡ false) (sym (eqb-true k at_slot.sint here))
+          (ap (λ b. b && not (list_any is_shown rows)) (ap (list_any is_shown) (cleared_there at_slot f.mail) ∙ none_any rows))
+      by_place k false off = still_shown at_slot.part at_slot.vp f slot_cleared k
+          (cleared_apart (place at_slot.part at_slot.vp k) at_slot (grind (arith, off)) f.mail)
+
       named : IsSynic s f slot_cleared
       named = record {
         shown = λ sint is same.
@@ -62,7 +76,8 @@ module _ (at_slot : Place) (f : Flat) where
             cc);
         waiting = λ sint is. cc;
         flag = λ change is. cc;
-        raised = λ vector is. cc (none_raised vector);
+        raised = none_rings s f slot_cleared refl (λ k. by_place k (k == at_slot.sint) refl);
+        pending = λ vector is. cc (none_raised vector);
         taken = λ vector is. cc;
         freed = λ other is. (let same : port ≡ other = cc in record { sint = at_slot.sint; message = row; before = before; by = sym same ∙ by; now = now });
         left = λ sint message is was gone. (let both : Some row ≡ Some message = sym before ∙ sym (shown_of at_slot mask bit f.mail sint is) ∙ was in cc);
@@ -115,7 +130,8 @@ module _ (part vp : ℕ) (f : Flat) (v : VpRow) (is : get f.vp (part, vp) ≡ So
         shown = λ sint h. cc (no_bit sint);
         waiting = λ sint h. cc;
         flag = λ change h. cc;
-        raised = λ other h. cc (none_raised other);
+        raised = none_rings s f interrupted refl (λ k. still_shown part vp f interrupted k refl);
+        pending = λ other h. cc (none_raised other);
         taken = λ other h. (let same : vector ≡ other = cc in subst (λ other. IsTaken s other f interrupted) same gone);
         freed = λ port h. cc;
         left = λ sint message h was gone. cc (no_bit sint);

@@ -1,19 +1,24 @@
 -- What an effect names of a flat state, and when it describes the difference between two flat states.
 use Rattle.std.specs.Prelude.{◌≡◌, ◌≢◌, ℕ, ◌%◌, ◌^◌, ◌==◌, ◌&&◌, ◌||◌, not, is_some, Bool, true, false, []}
-use Rattle.std.specs.Prelude.{◌∷◌, ◌++◌, Option, None, Some}
+use Rattle.std.specs.Prelude.{◌∷◌, ◌++◌, Option, None, Some, option_map}
 use Rattle.std.specs.FinMap.{contains_key, get}
 use Rattle.std.specs.FinSet as set
 use Rattle.std.specs.Int.{bit_at}
+use Rattle.std.specs.List.{list_any}
 use Rattle.std.specs.Option.{option_map_or}
+use Rattle.hv_defs.specs.declared.life.Life.{Life}
+use Rattle.hv_defs.specs.declared.life.Life.TheVariants.{Active, Finalized}
+use Rattle.hv_defs.specs.declared.sizes.TheConstants.{SINTS}
 use Rattle.hv_policy.specs.Mail.{place}
 use Rattle.hv_policy.specs.Reading.{has_flag, has_vector}
 use Rattle.hv_policy.specs.Answer.{vector_of}
 use Rattle.hv_policy.specs.Flat.{Flat, MailRow, PageRow}
-use Rattle.hv_policy.specs.Mail.{Place, mail_at, shown_at}
+use Rattle.hv_policy.specs.Mail.{Place, is_shown, mail_at, shown_at}
 use Rattle.hv_effect.specs.declared.effect.Effect.{Effect}
 use Rattle.hv_effect.specs.declared.effect.Effect.TheVariants as effect
 use Rattle.hv_effect.specs.declared.effect.FlagChange.{FlagChange}
 use Rattle.hv_effect.specs.declared.effect.Synic.{Synic}
+use Rattle.hv_effect.specs.Raised.{became_shown, registers_of, vectors_of}
 
 -- the effect at a processor that names nothing
 abbrev pub quiet : ℕ → ℕ → Synic
@@ -108,8 +113,9 @@ pub record LeavesUnnamed (effect : Effect) (f g : Flat) : Type 0 where
   pub processors : (part vp : ℕ) → names_processor effect part vp ≡ false
       → contains_key g.vp (part, vp) ≡ contains_key f.vp (part, vp)
 
--- one more message waits at a SINT, behind all others
+-- one more message waits at a SINT that shows one, behind all others
 pub record WaitsMore (at : Place) (f g : Flat) : Type 0 where
+  pub behind : list_any is_shown (mail_at at f.mail) ≡ true
   pub message : MailRow
   pub waits : message.shown ≡ false
   pub last : mail_at at g.mail ≡ mail_at at f.mail ++ message ∷ []
@@ -134,6 +140,12 @@ pub record IsFreed (s : Synic) (port : ℕ) (f g : Flat) : Type 0 where
   pub by : port ≡ message.port % 2 ^ 32
   pub now : shown_at (place s.part s.vp sint) g.mail ≡ None
 
+-- whether a SINT of the processor raises its vector, unless masked: it shows a message and showed none, or
+-- the event set one of its flags
+abbrev pub rings : Synic → Flat → Flat → ℕ → Bool
+rings s f g sint = became_shown s.part s.vp f g sint
+    || option_map_or (λ c. (sint == c.sint) && c.is_set) s.flag false
+
 -- what is named at a processor is true
 pub record IsSynic (s : Synic) (f g : Flat) : Type 0 where
   -- the slot shows another message than before, or one of the two is none
@@ -141,8 +153,9 @@ pub record IsSynic (s : Synic) (f g : Flat) : Type 0 where
       → shown_at (place s.part s.vp sint) g.mail ≢ shown_at (place s.part s.vp sint) f.mail
   pub waiting : (sint : ℕ) → s.waiting ≡ Some sint → WaitsMore (place s.part s.vp sint) f g
   pub flag : (change : FlagChange) → s.flag ≡ Some change → IsTurned s change f g
-  -- each raised vector is pending
-  pub raised : (vector : ℕ) → set.contains s.raised vector ≡ true → has_vector (get g.vp (s.part, s.vp))
+  -- the raised vectors are exactly those of the SINTs that raise theirs, and each of them is pending
+  pub raised : s.raised ≡ vectors_of (rings s f g) (registers_of (get g.vp (s.part, s.vp))) SINTS
+  pub pending : (vector : ℕ) → set.contains s.raised vector ≡ true → has_vector (get g.vp (s.part, s.vp))
       vector ≡ true
   pub taken : (vector : ℕ) → s.taken ≡ Some vector → IsTaken s vector f g
   pub freed : (port : ℕ) → s.freed ≡ Some port → IsFreed s port f g
@@ -157,16 +170,40 @@ pub record HasNothing (part vp : ℕ) (g : Flat) : Type 0 where
   pub flags : (sint flag : ℕ) → has_flag (get g.vp (part, vp)) sint flag ≡ false
   pub vectors : (vector : ℕ) → has_vector (get g.vp (part, vp)) vector ≡ false
 
+-- the life state of a partition, if it exists
+abbrev pub life_of : Flat → ℕ → Option Life
+life_of f id = option_map (λ row. row.life) (get f.part id)
+
+-- the page is where the effect says, and the partition that it belonged to before still exists
+pub record IsMoved (page : ℕ) (row : PageRow) (f g : Flat) : Type 0 where
+  pub now : get g.page page ≡ Some row
+  pub owner : option_map_or (λ row. contains_key g.part row.owner) (get f.page page) false ≡ true
+
+-- the partition `from` does not exist, and each page that it had is a loose page of `to`
+pub record ArePassedOn (from to : ℕ) (f g : Flat) : Type 0 where
+  pub gone : contains_key g.part from ≡ false
+  pub pages : (page : ℕ) → was_of from (get f.page page) ≡ true
+      → get g.page page ≡ Some (record { owner = to; pooled = false })
+
+-- the processor's partition is Active, and the processor has nothing
+pub record IsProcessor (part vp : ℕ) (g : Flat) : Type 0 where
+  pub life : life_of g part ≡ Some Active
+  pub nothing : HasNothing part vp g
+
+-- the partition is Finalized, and none of its processors exists or has anything
+pub record IsFinalized (part : ℕ) (g : Flat) : Type 0 where
+  pub life : life_of g part ≡ Some Finalized
+  pub gone : (vp : ℕ) → contains_key g.vp (part, vp) ≡ false
+  pub nothing : (vp : ℕ) → HasNothing part vp g
+
 -- what an effect names is true
 abbrev pub IsSo : Effect → Flat → Flat → Type 0
 IsSo effect.Nothing f g = Unit {0}
 IsSo (effect.Synic s) f g = IsSynic s f g
-IsSo (effect.Page page owner pooled) f g = get g.page page ≡ Some (record { owner = owner; pooled = pooled })
-IsSo (effect.Pages from to) f g =
-    (page : ℕ) → was_of from (get f.page page) ≡ true → get g.page page ≡ Some
-    (record { owner = to; pooled = false })
-IsSo (effect.Processor part vp) f g = HasNothing part vp g
-IsSo (effect.Partition part) f g = (vp : ℕ) → HasNothing part vp g
+IsSo (effect.Page page owner pooled) f g = IsMoved page (record { owner = owner; pooled = pooled }) f g
+IsSo (effect.Pages from to) f g = ArePassedOn from to f g
+IsSo (effect.Processor part vp) f g = IsProcessor part vp g
+IsSo (effect.Partition part) f g = IsFinalized part g
 
 -- whether the effect at a processor names a message, an event flag or a taken vector
 abbrev pub names_some : Synic → Bool
@@ -182,8 +219,8 @@ pub record HasProcessor (part : ℕ) (f : Flat) : Type 0 where
   pub vp : ℕ
   pub is : contains_key f.vp (part, vp) ≡ true
 
--- an effect other than Nothing names something that is not as it was: a message, an event flag, a vector, a
--- page, or whether a processor exists
+-- an effect other than Nothing names something that is not as it was: a message, an event flag, a taken
+-- vector, a page, or whether a processor exists
 abbrev pub IsChange : Effect → Flat → Flat → Type 0
 IsChange effect.Nothing f g = Unit {0}
 IsChange (effect.Synic s) f g = names_some s ≡ true

@@ -1,2 +1,3 @@
 pub mod Effect
 pub mod Ended
+pub mod Raised

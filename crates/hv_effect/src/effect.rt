@@ -13,14 +13,17 @@ pub enum Effect {
     Nothing,
     /// A message, an event flag or a pending vector changed at one processor.
     Synic(Synic),
-    /// The page belongs to this partition after the event, in its pool or as a loose page.
+    /// The page belongs to this partition after the event, in its pool or as a loose page. The partition that
+    /// owned it before still exists.
     Page { page: u64, owner: u64, pooled: bool },
-    /// The partition `from` was deleted. Each page that it had, at least one, is a loose page of `to`.
+    /// The partition `from` was deleted: it does not exist. Each page that it had, at least one, is a loose
+    /// page of `to`.
     Pages { from: u64, to: u64 },
-    /// The processor was created or deleted. It has no message, no event flag and no pending vector.
+    /// The processor was created or deleted. It has no message, no event flag and no pending vector. Its
+    /// partition is Active.
     Processor { part: u64, vp: u32 },
-    /// The partition was finalized, and its processors, at least one, were removed with all their messages,
-    /// event flags and pending vectors.
+    /// The partition was finalized: it is Finalized. Its processors, at least one, were removed with all
+    /// their messages, event flags and pending vectors.
     Partition { part: u64 },
 }
 
@@ -36,7 +39,8 @@ pub struct Synic {
     pub waiting: Option<u8>,
     /// The event flag that the event set or cleared.
     pub flag: Option<FlagChange>,
-    /// The vectors that SINTs raised. Each of them is pending, and may have been pending before.
+    /// The vectors that SINTs raised: those of the SINTs that show a message and showed none, and of the SINT
+    /// whose flag the event set, unless masked. Each of them is pending, and may have been pending before.
     pub raised: Pending,
     /// The vector that the processor took.
     pub taken: Option<u8>,

@@ -2,9 +2,12 @@
 //!
 //! `Tells` in `specs/Effect.antt` says what an effect promises of the flat states before and after an event.
 //! What the effect does not name is unchanged, at every processor of every partition (`LeavesUnnamed`). What
-//! it names is true (`IsSo`). The lemmas in `proofs/` speak of flat states alone.
+//! it names is true (`IsSo`) and is not as it was (`IsChange`). The lemmas in `proofs/` speak of flat states
+//! alone.
 #![tactic(auto)]
 
 mod effect;
+mod law;
 
 pub use effect::{Effect, FlagChange, Synic};
+pub use law::nothing_is_told_of_no_change;

@@ -1,0 +1,15 @@
+// What holds of each effect that an event tells.
+ghost use Rattle.std.specs.Prelude.{◌≡◌};
+ghost use Rattle.hv_policy.specs.Flat.{Flat};
+ghost use Rattle.hv_effect.specs.Effect.{LeavesUnnamed, Tells};
+ghost use Rattle.hv_effect.specs.declared.effect.Effect.{Effect as EffectOf};
+ghost use Rattle.hv_effect.specs.declared.effect.Effect.TheVariants as effect;
+
+/// If no message, event flag, pending vector, page or processor changed, the effect is `Nothing`.
+///
+/// In particular this is the effect of each event that a rule refuses.
+#[tactic(auto, using(crate::proofs::Unchanged::untold_unchanged))]
+pub fn nothing_is_told_of_no_change()
+    ensures { (f g : Flat) (told : EffectOf) → Tells told f g → LeavesUnnamed effect.Nothing f g
+        → told ≡ effect.Nothing }
+{}
