@@ -71,7 +71,7 @@ module _ (f : Flat) (part index : ℕ) (v : VpState) (is : HasState f part index
 
   pub shows_told : (message : Message) → sint < 16 → true ≡ has_next (with_last (at v.mail sint) message)
       → Tells (effect.Synic (record (quiet part index) { shown = 1 * 2 ^ sint % 2 ^ 16; raised = raised v.registers sint set.empty })) f (post (mail_row place false message) f)
-  shows_told message low told = post_shows (mail_row place false message) f refl (1 * 2 ^ sint % 2 ^ 16) (mask_bit sint low) (vp_row_of v) is.row (shown message true told)
+  shows_told message low told = post_shows (mail_row place false message) f refl low (1 * 2 ^ sint % 2 ^ 16) (mask_bit sint low) (vp_row_of v) is.row (shown message true told)
 
   -- a slot is cleared that shows none, and one that shows a message
   pub again_told : None ≡ option_map (λ (message : Message). message.port) (at v.mail sint).slot → Tells effect.Nothing f (record f { mail = cleared place f.mail })

@@ -2,26 +2,58 @@
 use Rattle.std.proofs.Common.{◌≡◌, ℕ, ◌==◌, ◌&&◌, true, false, Option, Some, None, is_some, refl, sym, ap, subst, ◌∙◌, eq-eqb, nat_cmp, option_map}
 use Rattle.std.proofs.lemmas.Bool.{and_from}
 use Rattle.std.specs.FinMap.{FinMap, contains_key, get, insert, remove, get-insert, get-remove}
+use Rattle.hv_calls.specs.declared.call.Call.TheVariants.{CreateVp, DeleteVp}
 use Rattle.hv_defs.proofs.Maps.{get_at-insert, get_at-remove}
+use Rattle.hv_defs.specs.declared.life.Life.{Life}
+use Rattle.hv_defs.specs.declared.life.Life.TheVariants.{Created, Active, Finalized}
 use Rattle.hv_effect.proofs.PagesAndVps.{deleted_told, made_told}
 use Rattle.hv_effect.proofs.ProcessorChange.{still_there}
-use Rattle.hv_effect.specs.Effect.{Tells}
+use Rattle.hv_effect.specs.Effect.{Tells, life_of}
 use Rattle.hv_effect.specs.declared.effect.Effect.TheVariants as variant
 use Rattle.hv_partition.specs.Partition.{PartitionState}
 use Rattle.hv_policy.proofs.Pairs.{pair_cmp_total}
 use Rattle.hv_policy.proofs.Places.{but_vp_there}
 use Rattle.hv_policy.specs.Boot.{start_vp}
-use Rattle.hv_policy.specs.Flat.{Flat}
+use Rattle.hv_policy.specs.Flat.{Flat, PartRow}
 use Rattle.hv_policy.specs.Mail.{mail_but_at}
+use Rattle.hv_policy.specs.Needs.{is_among, target_of}
+use Rattle.hv_policy.specs.declared.need.States.TheVariants as states
 use Rattle.hv_refine.proofs.FoundRow.{content_row}
 use Rattle.hv_refine.proofs.ChangedProcessor.{new_mail, rows_there, staff_tied, vp_in, vp_there}
-use Rattle.hv_refine.specs.Tie.{Refines, here, rows_of, sint_mail, vp_row_of}
+use Rattle.hv_refine.proofs.MetRules.{admitted_allowed, state_row}
+use Rattle.hv_refine.specs.Asked.{IsGranted}
+use Rattle.hv_refine.specs.Tie.{Refines, here, part_row, rows_of, sint_mail, vp_row_of}
 use Rattle.hv_tree.specs.Rows.{Row, Rows, change, changed_at, content}
 use Rattle.hv_vp.specs.Vp.{VpState, new_vp}
 
 absent : (o : Option VpState) → is_some o ≡ false → o ≡ None
 absent None h = refl
 absent (Some vp) h = cc
+
+-- the target of a call that asks for an Active one
+active_alone : (life : Life) → is_among life states.Active ≡ true → life ≡ Active
+active_alone Created h = cc
+active_alone Active h = refl
+active_alone Finalized h = cc
+
+module _ (rows : Rows PartitionState) (f : Flat) (flat : Refines rows f) where
+  active_there : (id : ℕ) (r : Row PartitionState) → get rows id ≡ Some r → is_among r.1.life states.Active ≡ true → life_of f id ≡ Some Active
+  active_there id r at state = ap (option_map (λ (row : PartRow). row.life)) ((flat.rows id).part ∙ ap (option_map part_row) at) ∙ ap Some (active_alone r.1.life state)
+
+  module _ (caller partition vp : ℕ) where
+    pub create_active : IsGranted rows caller (CreateVp partition vp) → life_of f (target_of (CreateVp partition vp) caller) ≡ Some Active
+    create_active g =
+        let i = g.admitted in
+        let allowed = admitted_allowed rows caller (CreateVp partition vp) i g.met in
+        let (r, at, state) = state_row rows i.rows.flat i.rows.tied caller (CreateVp partition vp) allowed allowed.further.0 in
+        active_there (target_of (CreateVp partition vp) caller) r at state
+
+    pub delete_active : IsGranted rows caller (DeleteVp partition vp) → life_of f (target_of (DeleteVp partition vp) caller) ≡ Some Active
+    delete_active g =
+        let i = g.admitted in
+        let allowed = admitted_allowed rows caller (DeleteVp partition vp) i g.met in
+        let (r, at, state) = state_row rows i.rows.flat i.rows.tied caller (DeleteVp partition vp) allowed allowed.further.0 in
+        active_there (target_of (DeleteVp partition vp) caller) r at state
 
 -- a partition that was lent from the tree, whose processors changed, and put back
 module _ (rows : Rows PartitionState) (f : Flat) (flat : Refines rows f) (id index : ℕ) (p : PartitionState) (found : Some p ≡ content rows id) where
@@ -56,9 +88,9 @@ module _ (rows : Rows PartitionState) (f : Flat) (flat : Refines rows f) (id ind
         (λ sint. rows_there rows f flat id index sint ∙ ap (rows_of (here id index sint)) (ap (sint_mail sint) none ∙ sym (new_mail index sint)))
         (λ _ _. refl))
 
-    pub added_told : Tells (variant.Processor id index) f (record f { vp = insert f.vp (id, index) (start_vp index) })
-    added_told =
-        made_told f id index (λ sint. rows_there rows f flat id index sint ∙ ap (λ o. rows_of (here id index sint) (sint_mail sint o)) none)
+    pub added_told : life_of f id ≡ Some Active → Tells (variant.Processor id index) f (record f { vp = insert f.vp (id, index) (start_vp index) })
+    added_told active =
+        made_told f id index active (λ sint. rows_there rows f flat id index sint ∙ ap (λ o. rows_of (here id index sint) (sint_mail sint o)) none)
         (ap is_some (in_flat ∙ ap (option_map vp_row_of) (absent (get p.vps.vps index) free)))
 
   -- one that went, with its messages
@@ -73,5 +105,5 @@ module _ (rows : Rows PartitionState) (f : Flat) (flat : Refines rows f) (id ind
       (λ n. ap {A = FinMap nat_cmp VpState} (λ m. get m n) vps ∙ get_at-remove r.1.vps.vps index n) (λ key. get-remove pair_cmp_total f.vp (id, index) key)
       (λ sint. but_vp_there id index (here id index sint) true own f.mail) (λ place apart. but_vp_there id index place false apart f.mail))
 
-  pub removed_told : contains_key p.vps.vps index ≡ true → Tells (variant.Processor id index) f (record f { vp = remove f.vp (id, index); mail = mail_but_at id index f.mail })
-  removed_told there = deleted_told f id index (ap is_some in_flat ∙ still_there vp_row_of (get p.vps.vps index) ∙ there)
+  pub removed_told : life_of f id ≡ Some Active → contains_key p.vps.vps index ≡ true → Tells (variant.Processor id index) f (record f { vp = remove f.vp (id, index); mail = mail_but_at id index f.mail })
+  removed_told active there = deleted_told f id index active (ap is_some in_flat ∙ still_there vp_row_of (get p.vps.vps index) ∙ there)

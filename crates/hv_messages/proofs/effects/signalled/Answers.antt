@@ -9,4 +9,4 @@ returns-then-was_set g c f v is registers was = signal_again c.args.part c.args.
 pub returns : goal.returns
 returns g c f v is registers was =
     rw c.quiet.ensures (rw c.add_vector.ensures (rw c.new-raised.ensures (rw registers
-    (signal_turns c.args.part c.args.index c.args.sint c.args.flag f (vp_row_of v) is.row (sym was ∙ c.if-was_set.false)))))
+    (signal_turns c.args.part c.args.index c.args.sint c.args.flag f (vp_row_of v) is.row c.requires (sym was ∙ c.if-was_set.false)))))

@@ -1,6 +1,8 @@
-use Rattle.std.proofs.Common.{◌≡◌, false, refl, rules}
+use Rattle.std.proofs.Common.{◌≡◌, Some, false, refl, rules}
 use Rattle.std.specs.FinMap.{contains_key}
-use Rattle.hv_processors.proofs.CreatedProcessor.{added_tied, added_told}
+use Rattle.hv_defs.specs.declared.life.Life.TheVariants.{Active}
+use Rattle.hv_effect.specs.Effect.{life_of}
+use Rattle.hv_processors.proofs.CreatedProcessor.{added_tied, added_told, create_active}
 use Rattle.hv_processors.proofs.create.do_create.Goals as goal
 
 pub returns : goal.returns
@@ -8,9 +10,11 @@ returns g c f flat =
     let part = c.resolve_partition_id-part.result in
     let was = c.in-Some.target.now in
     let free : contains_key was.vps.vps c.args.vp ≡ false = search rules in
+    let active : life_of f part ≡ Some Active =
+    rw c.resolve_partition_id-part.ensures (create_active c.args.tree.now f flat c.args.caller c.args.partition c.args.vp c.requires) in
     record {
       output = refl;
       rows = rw (← c.resolve_partition_id-part.ensures) (added_tied c.args.tree.now f flat part c.args.vp was c.in-Some.ensures.value free c.reserve_vp.new.self c.add_vp.new.self
           c.in_ok-created.created c.reserve_vp.ensures.rest c.reserve_vp.ensures.vps c.add_vp.ensures.rest c.add_vp.ensures.vps c.in_ok-created.ensures);
-      told = rw (← c.resolve_partition_id-part.ensures) (added_told c.args.tree.now f flat part c.args.vp was c.in-Some.ensures.value free);
+      told = rw (← c.resolve_partition_id-part.ensures) (added_told c.args.tree.now f flat part c.args.vp was c.in-Some.ensures.value free active);
     }
