@@ -46,6 +46,11 @@ tree_asks f by call = caller_asks f by ++ (target_asks f by.part call ++ further
 unfoldable pub unmet_in_tree : Flat → Caller → Call → Option Rule
 unmet_in_tree f by call = first_unmet (tree_asks f by call)
 
+-- a call is refused by the first of its rules that fails, and never for lack of memory
+abbrev pub IsRefused : Flat → Caller → Call → CallError → Type 0
+IsRefused f by call (Unmet rule) = unmet_in_tree f by call ≡ Some rule
+IsRefused f by call Memory = ⊥
+
 -- the outcome of a call, in a flat state that the old rows refine: it was served, or it failed with the first
 -- rule that does not hold and the rows are unchanged, or the host was out of memory
 abbrev pub IsCalled : Flat → Caller → Call → Rows PartitionState → Result (List ℕ × Effect) CallError →

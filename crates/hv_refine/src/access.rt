@@ -13,11 +13,12 @@ ghost use Rattle.hv_policy.specs.Needs.{needs_of, target_at, target_of};
 ghost use Rattle.hv_policy.specs.declared.event.Caller.{Caller as AnyCaller};
 ghost use Rattle.hv_policy.specs.Rules.{Ask, caller_asks, first_unmet, target_asks};
 ghost use Rattle.hv_refine.specs.Asked.{AreFound, IsGranted};
-ghost use Rattle.hv_refine.specs.Done.{unmet_in_tree};
+ghost use Rattle.hv_refine.specs.Done.{IsRefused, unmet_in_tree};
 ghost use Rattle.hv_refine.specs.Served.{TreeInvariant, unmet_further};
 ghost use Rattle.hv_refine.specs.Tie.{Refines};
 
 use crate::partitions::Partitions;
+use crate::refused::CallError;
 use crate::rules::resolve_partition_id;
 use hv_calls::Call;
 use hv_defs::Life;
@@ -56,8 +57,19 @@ pub fn first_rule<A: Allocator>(tree: &Partitions<A>, by: Caller, rule: Rule) ->
     }
 }
 
-/// Checks P1 to P3 and P8 to P10 for a call, and returns the call's row in the table of needs, the caller's
-/// partition, the target and the number of the target's children.
+/// What P1 to P10 found in the tree for a call.
+#[derive(Clone, Copy)]
+pub struct Found<'t, A: Allocator> {
+    /// The call's row in the table of needs.
+    pub need: Need,
+    /// The caller's partition, and the target.
+    pub caller: &'t Partition<A>,
+    pub target: &'t Partition<A>,
+    /// The number of the target's children.
+    pub children: u32,
+}
+
+/// Checks P1 to P3 and P8 to P10 for a call, and returns what they found.
 ///
 /// The error is the first of these rules that fails. Each partition is looked up once.
 // Inlined: calls for the own id in bench/embed.sh.
@@ -66,25 +78,30 @@ pub fn admit<'t, A: Allocator>(
     tree: &'t Partitions<A>,
     by: Caller,
     call: &Call<'_>,
-) -> Result<(Need, &'t Partition<A>, &'t Partition<A>, u32), Rule>
-    ensures found { IfOk result (λ found. AreFound tree.now by.part call.now found.0 found.1.now found.2.now
-        found.3) }
+) -> Result<Found<'t, A>, CallError>
+    ensures found { IfOk result (λ found. AreFound tree.now by.part call.now found.need found.caller.now
+        found.target.now found.children) }
     ensures further { IfOk result (λ _. (f : Flat) → Refines tree.now f
         → unmet_in_tree f by call.now ≡ unmet_further f by.part call.now) }
     ensures grants { IfOk result (λ _. (t : TreeInvariant tree.now)
         → unmet_further t.flat by.part call.now ≡ None → IsGranted tree.now by.part call.now) }
-    ensures unmet { IfErr result (λ rule. (f : Flat) → Refines tree.now f
-        → unmet_in_tree f by call.now ≡ Some rule) }
+    ensures unmet { IfErr result (λ why. (f : Flat) → Refines tree.now f
+        → IsRefused f by call.now why) }
 {
     let need = needs(call);
     let id = target(by.part, need.named);
     let (caller, count, relative) = match caller_with(tree, by, id) {
         Ok(found) => found,
-        Err(rule) => return Err(rule),
+        Err(rule) => return Err(CallError::Unmet(rule)),
     };
     match target_in(tree, by, caller, count, relative, call, need) {
-        Ok((target, children)) => Ok((need, caller, target, children)),
-        Err(rule) => Err(rule),
+        Ok((target, children)) => Ok(Found {
+            need,
+            caller,
+            target,
+            children,
+        }),
+        Err(rule) => Err(CallError::Unmet(rule)),
     }
 }
 

@@ -13,7 +13,7 @@ mod partitions;
 mod refused;
 mod rules;
 
-pub use access::{admit, caller_in, caller_vp, first_rule};
+pub use access::{Found, admit, caller_in, caller_vp, first_rule};
 pub use partitions::Partitions;
 pub use refused::CallError;
 pub use rules::{Balance, balance_of, has_target, has_vp, resolve_partition_id};
