@@ -1,6 +1,6 @@
 // HvCreateVp.
 ghost use Rattle.std.specs.Prelude.{◌≡◌, ℕ, []};
-ghost use Rattle.std.specs.Result.{result_map_both};
+ghost use Rattle.std.specs.Result.{result_err, result_map_both};
 ghost use Rattle.hv_calls.specs.declared.call.Call.TheVariants as call;
 ghost use Rattle.hv_partition.specs.Partition.{PartitionState};
 ghost use Rattle.hv_policy.specs.Flat.{Flat};
@@ -13,9 +13,8 @@ ghost use Rattle.hv_tree.specs.Rows.{Rows};
 use hv_calls::Call;
 use hv_defs::MAX_VPS;
 use hv_effect::Effect;
-use hv_partition::Partition;
-use hv_policy::{Caller, Need, Rule};
-use hv_refine::{CallError, Partitions, admit, balance_of, has_vp, resolve_partition_id};
+use hv_policy::{Caller, Rule};
+use hv_refine::{CallError, Found, Partitions, admit, balance_of, has_vp, resolve_partition_id};
 use hv_vp::Vp;
 use std::alloc::{AllocError, Allocator};
 
@@ -33,40 +32,34 @@ pub fn create_vp<A: Allocator + Clone>(
     ensures { (f : Flat) → Refines tree.old f → IsCalled f by (call.CreateVp partition vp) tree.old
         (result_map_both (λ effect. ([], effect)) (λ why. why) result) tree.new }
 {
-    let (need, _, target, children) = match admit(tree, by, &Call::CreateVp { partition, vp }) {
-        Ok(found) => found,
-        Err(rule) => return Err(CallError::Unmet(rule)),
-    };
-    if let Some(rule) = ask_create(need, target, children, vp) {
-        return Err(CallError::Unmet(rule));
-    }
-    match do_create(tree, alloc, by.part, partition, vp) {
-        Ok(effect) => Ok(effect),
-        Err(AllocError) => Err(CallError::Memory),
-    }
+    let found = admit(tree, by, &Call::CreateVp { partition, vp })?;
+    ask_create(found, vp)?;
+    Ok(do_create(tree, alloc, by.part, partition, vp)?)
 }
 
 // P12, P19 and P24.
-fn ask_create<A: Allocator>(
-    need: Need,
-    target: &Partition<A>,
-    children: u32,
-    vp: u32,
-) -> Option<Rule>
-    ensures { (tree : Rows PartitionState) (f : Flat) (by partition : ℕ) (caller : PartitionState)
-        → AreFound tree by (call.CreateVp partition vp) need caller target.now children → Refines tree f
-        → result ≡ unmet_further f by (call.CreateVp partition vp) }
+fn ask_create<A: Allocator>(found: Found<'_, A>, vp: u32) -> Result<(), Rule>
+    ensures { (tree : Rows PartitionState) (f : Flat) (by partition : ℕ)
+        → AreFound tree by (call.CreateVp partition vp) found.entry.need found.entry.caller.now
+        found.entry.target.now found.entry.children → Refines tree f
+        → result_err result ≡ unmet_further f by (call.CreateVp partition vp) }
 {
+    let Found {
+        need,
+        target,
+        children,
+        ..
+    } = found;
     if !need.states.allow(target.life()) {
-        return Some(Rule::TargetState);
+        return Err(Rule::TargetState);
     }
     if vp >= MAX_VPS || has_vp(target, vp) {
-        return Some(Rule::VpExists);
+        return Err(Rule::VpExists);
     }
     if balance_of(target, children).available < need.charge {
-        return Some(Rule::Pages);
+        return Err(Rule::Pages);
     }
-    None
+    Ok(())
 }
 
 // Creates the processor. It takes memory for the processor, then for its place among the target's.

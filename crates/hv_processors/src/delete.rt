@@ -1,6 +1,6 @@
 // HvDeleteVp.
 ghost use Rattle.std.specs.Prelude.{◌≡◌, ℕ, []};
-ghost use Rattle.std.specs.Result.{result_map_both};
+ghost use Rattle.std.specs.Result.{result_err, result_map_both};
 ghost use Rattle.hv_calls.specs.declared.call.Call.TheVariants as call;
 ghost use Rattle.hv_partition.specs.Partition.{PartitionState};
 ghost use Rattle.hv_policy.specs.Flat.{Flat};
@@ -12,9 +12,8 @@ ghost use Rattle.hv_tree.specs.Rows.{Rows};
 
 use hv_calls::Call;
 use hv_effect::Effect;
-use hv_partition::Partition;
-use hv_policy::{Caller, Need, Rule};
-use hv_refine::{CallError, Partitions, admit, has_vp, resolve_partition_id};
+use hv_policy::{Caller, Rule};
+use hv_refine::{CallError, Found, Partitions, admit, has_vp, resolve_partition_id};
 use std::alloc::Allocator;
 
 /// HvDeleteVp: removes the target's processor with this index, its registers and its messages.
@@ -28,29 +27,25 @@ pub fn delete_vp<A: Allocator>(
     ensures { (f : Flat) → Refines tree.old f → IsCalled f by (call.DeleteVp partition vp) tree.old
         (result_map_both (λ effect. ([], effect)) (λ why. why) result) tree.new }
 {
-    let (need, _, target, _) = match admit(tree, by, &Call::DeleteVp { partition, vp }) {
-        Ok(found) => found,
-        Err(rule) => return Err(CallError::Unmet(rule)),
-    };
-    if let Some(rule) = ask_delete(need, target, vp) {
-        return Err(CallError::Unmet(rule));
-    }
+    let found = admit(tree, by, &Call::DeleteVp { partition, vp })?;
+    ask_delete(found, vp)?;
     Ok(do_delete(tree, by.part, partition, vp))
 }
 
 // P12 and P19.
-fn ask_delete<A: Allocator>(need: Need, target: &Partition<A>, vp: u32) -> Option<Rule>
-    ensures { (tree : Rows PartitionState) (f : Flat) (by partition children : ℕ) (caller : PartitionState)
-        → AreFound tree by (call.DeleteVp partition vp) need caller target.now children → Refines tree f
-        → result ≡ unmet_further f by (call.DeleteVp partition vp) }
+fn ask_delete<A: Allocator>(found: Found<'_, A>, vp: u32) -> Result<(), Rule>
+    ensures { (tree : Rows PartitionState) (f : Flat) (by partition : ℕ)
+        → AreFound tree by (call.DeleteVp partition vp) found.entry.need found.entry.caller.now
+        found.entry.target.now found.entry.children → Refines tree f
+        → result_err result ≡ unmet_further f by (call.DeleteVp partition vp) }
 {
-    if !need.states.allow(target.life()) {
-        return Some(Rule::TargetState);
+    if !found.need.states.allow(found.target.life()) {
+        return Err(Rule::TargetState);
     }
-    if !has_vp(target, vp) {
-        return Some(Rule::VpExists);
+    if !has_vp(found.target, vp) {
+        return Err(Rule::VpExists);
     }
-    None
+    Ok(())
 }
 
 // Removes the processor.

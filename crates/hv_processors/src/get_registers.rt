@@ -1,7 +1,7 @@
 // HvGetVpRegisters.
-ghost use Rattle.std.specs.Prelude.{◌≡◌, ℕ, [], None, Some, IfErr, IfOk};
+ghost use Rattle.std.specs.Prelude.{◌≡◌, ℕ, [], IfOk};
 ghost use Rattle.std.specs.FinMap.{get};
-ghost use Rattle.std.specs.Result.{result_map_both};
+ghost use Rattle.std.specs.Result.{result_err, result_map_both};
 ghost use Rattle.hv_calls.specs.declared.call.Call.TheVariants as call;
 ghost use Rattle.hv_partition.specs.Partition.{PartitionState};
 ghost use Rattle.hv_policy.specs.Answer.{register_of};
@@ -16,9 +16,8 @@ ghost use Rattle.hv_tree.specs.Rows.{Rows};
 use crate::register_rules::may_access;
 use hv_calls::Call;
 use hv_effect::Effect;
-use hv_partition::Partition;
-use hv_policy::{Caller, Need, Output, Rule};
-use hv_refine::{CallError, Partitions, admit};
+use hv_policy::{Caller, Output, Rule};
+use hv_refine::{CallError, Found, Partitions, admit};
 use hv_vp::privilege_of;
 use std::alloc::Allocator;
 
@@ -43,35 +42,30 @@ pub fn get_vp_registers<A: Allocator>(
         vp,
         name,
     };
-    let (need, caller, target, _) = match admit(tree, by, &call) {
-        Ok(found) => found,
-        Err(rule) => return Err(CallError::Unmet(rule)),
-    };
-    let value = match ask_get(need, caller, target, vp, name) {
-        Ok(value) => value,
-        Err(rule) => return Err(CallError::Unmet(rule)),
-    };
+    let found = admit(tree, by, &call)?;
+    let value = ask_get(found, vp, name)?;
     output.push_number(value);
     output.push_number(0);
     Ok(Effect::Nothing)
 }
 
 // P12, P18, P19 and P21. Returns the register's value.
-fn ask_get<A: Allocator>(
-    need: Need,
-    caller: &Partition<A>,
-    target: &Partition<A>,
-    vp: u32,
-    name: u32,
-) -> Result<u64, Rule>
-    ensures value { IfOk result (λ value. (tree : Rows PartitionState) (f : Flat) (by partition children : ℕ)
-        → AreFound tree by (call.GetVpRegisters partition vp name) need caller.now target.now children
-        → Refines tree f → (unmet_further f by (call.GetVpRegisters partition vp name) ≡ None)
-        × (value ≡ register_of (get f.vp (target_of (call.GetVpRegisters partition vp name) by, vp)) name)) }
-    ensures unmet { IfErr result (λ rule. (tree : Rows PartitionState) (f : Flat) (by partition children : ℕ)
-        → AreFound tree by (call.GetVpRegisters partition vp name) need caller.now target.now children
-        → Refines tree f → unmet_further f by (call.GetVpRegisters partition vp name) ≡ Some rule) }
+fn ask_get<A: Allocator>(found: Found<'_, A>, vp: u32, name: u32) -> Result<u64, Rule>
+    ensures value { IfOk result (λ value. (tree : Rows PartitionState) (f : Flat) (by partition : ℕ)
+        → AreFound tree by (call.GetVpRegisters partition vp name) found.entry.need found.entry.caller.now
+        found.entry.target.now found.entry.children → Refines tree f
+        → value ≡ register_of (get f.vp (target_of (call.GetVpRegisters partition vp name) by, vp)) name) }
+    ensures unmet { (tree : Rows PartitionState) (f : Flat) (by partition : ℕ)
+        → AreFound tree by (call.GetVpRegisters partition vp name) found.entry.need found.entry.caller.now
+        found.entry.target.now found.entry.children → Refines tree f
+        → result_err result ≡ unmet_further f by (call.GetVpRegisters partition vp name) }
 {
+    let Found {
+        need,
+        caller,
+        target,
+        ..
+    } = found;
     if !need.states.allow(target.life()) {
         return Err(Rule::TargetState);
     }

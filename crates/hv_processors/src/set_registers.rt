@@ -1,6 +1,6 @@
 // HvSetVpRegisters.
 ghost use Rattle.std.specs.Prelude.{◌≡◌, ℕ, []};
-ghost use Rattle.std.specs.Result.{result_map_both};
+ghost use Rattle.std.specs.Result.{result_err, result_map_both};
 ghost use Rattle.hv_calls.specs.declared.call.Call.TheVariants as call;
 ghost use Rattle.hv_partition.specs.Partition.{PartitionState};
 ghost use Rattle.hv_policy.specs.Flat.{Flat};
@@ -14,9 +14,8 @@ use crate::register_rules::may_access;
 use crate::writes::write_register;
 use hv_calls::Call;
 use hv_effect::Effect;
-use hv_partition::Partition;
-use hv_policy::{Caller, Need, Rule};
-use hv_refine::{CallError, Partitions, admit, has_vp, resolve_partition_id};
+use hv_policy::{Caller, Rule};
+use hv_refine::{CallError, Found, Partitions, admit, has_vp, resolve_partition_id};
 use hv_vp::{kept, privilege_of};
 use std::alloc::Allocator;
 
@@ -43,42 +42,37 @@ pub fn set_vp_registers<A: Allocator>(
         name,
         value,
     };
-    let (need, caller, target, _) = match admit(tree, by, &call) {
-        Ok(found) => found,
-        Err(rule) => return Err(CallError::Unmet(rule)),
-    };
-    if let Some(rule) = ask_set(need, caller, target, vp, name, value) {
-        return Err(CallError::Unmet(rule));
-    }
+    let found = admit(tree, by, &call)?;
+    ask_set(found, vp, name, value)?;
     Ok(do_set(tree, by.part, partition, vp, name, value))
 }
 
 // P12, P18, P19 and P21.
-fn ask_set<A: Allocator>(
-    need: Need,
-    caller: &Partition<A>,
-    target: &Partition<A>,
-    vp: u32,
-    name: u32,
-    value: u64,
-) -> Option<Rule>
-    ensures { (tree : Rows PartitionState) (f : Flat) (by partition children : ℕ)
-        → AreFound tree by (call.SetVpRegisters partition vp name value) need caller.now target.now children
-        → Refines tree f → result ≡ unmet_further f by (call.SetVpRegisters partition vp name value) }
+fn ask_set<A: Allocator>(found: Found<'_, A>, vp: u32, name: u32, value: u64) -> Result<(), Rule>
+    ensures { (tree : Rows PartitionState) (f : Flat) (by partition : ℕ)
+        → AreFound tree by (call.SetVpRegisters partition vp name value) found.entry.need
+        found.entry.caller.now found.entry.target.now found.entry.children → Refines tree f
+        → result_err result ≡ unmet_further f by (call.SetVpRegisters partition vp name value) }
 {
+    let Found {
+        need,
+        caller,
+        target,
+        ..
+    } = found;
     if !need.states.allow(target.life()) {
-        return Some(Rule::TargetState);
+        return Err(Rule::TargetState);
     }
     if !may_access(caller.mask(), privilege_of(name)) {
-        return Some(Rule::Entitlement);
+        return Err(Rule::Entitlement);
     }
     if !has_vp(target, vp) {
-        return Some(Rule::VpExists);
+        return Err(Rule::VpExists);
     }
     if kept(name, value).is_err() {
-        return Some(Rule::Operand);
+        return Err(Rule::Operand);
     }
-    None
+    Ok(())
 }
 
 // Writes the register.

@@ -1,11 +1,13 @@
-use Rattle.std.proofs.Common.{refl, sym, ◌∙◌}
+use Rattle.std.proofs.Common.{◌∙◌, rules}
 use Rattle.hv_processors.proofs.set_registers.set_vp_registers.Goals as goal
-
-pub returns-in-Some : goal.returns-in-Some
-returns-in-Some g c f flat =
-    (c.in-Ok.ensures.further f flat ∙ sym (c.ask_set.ensures c.args.tree.now f c.args.by.part c.args.partition _ c.in-Ok.ensures.found flat) ∙ c.in-Some.is, refl)
 
 pub do_set-requires : goal.do_set-requires
 do_set-requires g c =
     let t = c.requires.rows in
-    c.in-Ok.ensures.grants t (sym (c.ask_set.ensures c.args.tree.now t.flat c.args.by.part c.args.partition _ c.in-Ok.ensures.found t.tied) ∙ c.in_default.is)
+    let asked = c.ask_set.ensures c.args.tree.now t.flat c.args.by.part c.args.partition c.in_ok-found.ensures.found t.tied in
+    c.in_ok-found.ensures.grants t (search rules)
+
+pub returns : goal.returns
+returns g c f flat =
+    let asked = c.ask_set.ensures c.args.tree.now f c.args.by.part c.args.partition c.in_ok-found.ensures.found flat in
+    (c.in_ok-found.ensures.further f flat ∙ search rules, c.do_set.ensures f flat)
