@@ -3,9 +3,9 @@
 
     bench/tables.py [NAME [OUTPUT]]
 
-NAME is one of largest, threads, pools, embed, registers and messages. bench/NAME.sh runs, and what it prints
-becomes the table. With OUTPUT, a file with what bench/NAME.sh printed before, nothing runs. Without a word
-all six run.
+NAME is one of largest, threads, pools, embed, registers, messages and longest. bench/NAME.sh runs, and what it
+prints becomes the table. With OUTPUT, a file with what bench/NAME.sh printed before, nothing runs. Without a
+word all seven run.
 
     bench/tables.py gate FILE
 
@@ -57,6 +57,21 @@ MESSAGES = {
     "kept messages at the processor: 700": ("1", "100", "0", "700"),
 }
 PAGES = (4096, 16384, 32768, 65536)
+# Of the longest events: the event, what it grows with, and how much of that there is.
+LONGEST = {
+    "scattered": ("HvDeletePartition", "runs of pages that do not touch", "32,000 runs of one page"),
+    "finalize": ("HvFinalizePartition", "what the partition has",
+                 "64 VPs, 8,000 ports, 8,000 connections, 8,000 messages"),
+    "deletevp": ("HvDeleteVp", "stored messages", "32,000 messages of 4,000 ports"),
+    "narrow": ("HvSetPartitionProperty of a mask", "partitions below", "20,000 children"),
+    "firstchild": ("HvDeletePartition", "siblings with higher ids", "30,000 children"),
+    "createport": ("HvCreatePort", "ports with higher ids", "30,000 ports"),
+    "deleteport": ("HvDeletePort", "ports with higher ids", "30,000 ports"),
+    "post": ("HvPostMessage", "messages stored at the VP", "32,000 messages of 4,000 ports"),
+    "eom": ("a write of EOM", "SINTs with a message", "1 SINT, 32,000 messages"),
+    "createvp": ("HvCreateVp", "nothing", ""),
+    "ownid": ("HvGetPartitionId", "nothing", ""),
+}
 
 
 class Part:
@@ -169,6 +184,13 @@ def messages(text):
                  "instructions"), rows)
 
 
+def longest(text):
+    found = re.findall(r"^(\w+) (\d+) ns(?:, (\d+) instructions)?$", text, re.M)
+    rows = [(*LONGEST[kind], f"{int(taken) / 1000:,.1f} µs", number(int(count) if count else None))
+            for kind, taken, count in found]
+    print_table(("event", "grows with", "here", "time", "instructions"), rows)
+
+
 def gate(text):
     """The crates by the time that they took, the longest first, and all of them together."""
     kinds = ("proof", "tests", "edits")
@@ -182,7 +204,7 @@ def gate(text):
     print_table(("crate", "proof, s", "tests, s", "wrong edits, s", "together, s"), rows)
 
 
-TABLES = {table.__name__: table for table in (largest, threads, pools, embed, registers, messages)}
+TABLES = {table.__name__: table for table in (largest, threads, pools, embed, registers, messages, longest)}
 
 
 def build():
