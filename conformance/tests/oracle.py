@@ -87,6 +87,8 @@ def tell(fault, script, table):
             sys.stdout.write("x" * (1 << 20))
     if fault == "asleep":
         time.sleep(60)
+    while fault == "busy":
+        pass
     if fault == "crash":
         os.kill(os.getpid(), signal.SIGSEGV)
     if fault == "exit":

@@ -165,8 +165,9 @@ def too_little_fails():
     must_count(oracle("event"), 0, 1, "told:   events ")
     must_count(oracle("nothing"), 0, 1, "wanted: 1 1.0 call", "told:   nothing more")
     must_count(oracle("nothing", "--batch"), 0, 1, "told:   nothing more")
-    must_count(oracle("asleep", "--timeout", "0.3"), 0, 1, "it had not ended after 0.3 seconds")
-    must_count(oracle("asleep", "--timeout", "0.3", "--batch"), 0, 1, "it had not ended after 0.3 seconds")
+    for batch in ([], ["--batch"]):
+        must_count(oracle("asleep", "--timeout", "0.4", *batch), 0, 1, " seconds by the clock, 0.")
+        must_count(oracle("busy", "--timeout", "0.4", *batch), 0, 1, " seconds of processor time")
 
 
 @test
