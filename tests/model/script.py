@@ -2,7 +2,7 @@
 import json
 import re
 from functools import lru_cache
-from typing import NamedTuple
+from typing import NamedTuple, Optional
 
 from model.machine import DENIED, FAULT, MORE, BootRefused, Machine
 
@@ -237,8 +237,8 @@ class Answer(NamedTuple):
     with --json what a look shows."""
 
     events: list = []
-    fault: str | None = None
-    table: list | None = None
+    fault: Optional[str] = None
+    table: Optional[list] = None
     peek: tuple = ()
 
 
