@@ -50,7 +50,7 @@ one_more x p many room few = elim (cases_Bool (x == p)) [
 
 -- a leaf was put below p
 pub grown-shown : {T : Type 0} {es : List (Line T)} {n : ℕ} {m : Rows T} → IsShown es n m → (new : List (Line T)) (p q : ℕ) (c : T) → IsGrownBy p ((q, (None, Some c)) ∷ []) es new → IsNest new →
-    contains_key m q ≡ false → length (children m p) < 2 ^ 32 - 1 → n + 1 < 2 ^ 63 → IsShown new (n + 1) (insert m q (Some p, c))
+    contains_key m q ≡ false → length (children m p) < 2 ^ 32 - 1 → n + 1 < 2 ^ 32 → IsShown new (n + 1) (insert m q (Some p, c))
 grown-shown {es = es} {m = m} s new p q c (xs, (ys, (old_is, new_is))) nest free room fits =
     let lacks : has_row q es ≡ false = sym (has-seen s q) ∙ free in
     let fresh : uses q (xs ++ ys) ≡ 0 = rw (← old_is) (unused q es lacks) in

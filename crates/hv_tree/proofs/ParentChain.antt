@@ -1,5 +1,6 @@
 -- The ids above an id, and those on the way down to it, one step at a time.
-use Rattle.std.proofs.Common.{◌≡◌, ℕ, zero, suc, ◌+◌, ◌-◌, ◌<◌, Option, None, Some, [], ◌∷◌, ◌++◌, refl, sym, ap, ◌∙◌, arith, append_assoc, unwrap_or}
+use Rattle.std.proofs.Common.{◌≡◌, ℕ, zero, suc, ◌+◌, ◌-◌, ◌<◌, Option, None, Some, List, [], ◌∷◌, ◌++◌, length, drop, slice_set, refl, sym, ap, ◌∙◌, arith, append_assoc, unwrap_or}
+use Rattle.std.proofs.lemmas.Grind.{drop-set_at}
 use Rattle.hv_tree.specs.Way.{above, line, depth, depth_from}
 
 pub above-more : (up : ℕ → Option ℕ) (n at : ℕ) → above up (suc n) at ≡ above up n (unwrap_or (up at) at)
@@ -44,6 +45,29 @@ line-split up s (suc t) at =
     ap (λ n. line up n at) e ∙ line-more up (s + suc t) at ∙ ap (λ xs. xs ++ at ∷ []) (line-split up s t p)
     ∙ append_assoc (line up s (above up (suc t) p)) (above up t p ∷ line up t p) (at ∷ [])
     ∙ (rw (above-more up (suc t) at, above-more up t at, line-more up t at) refl)
+
+-- one id more at the top
+pub line-up : (up : ℕ → Option ℕ) (n at : ℕ) → line up (n + 1) at ≡ above up n at ∷ line up n at
+line-up up n at =
+    let one : n + 1 ≡ 0 + suc n = omega arith in
+    ap (λ m. line up m at) one ∙ line-split up 0 n at ∙ ap (λ xs. xs ++ above up n at ∷ line up n at) (line-zero up (above up (suc n) at))
+
+pub above-up : (up : ℕ → Option ℕ) (n at q p : ℕ) → q ≡ above up n at → up q ≡ Some p → p ≡ above up (n + 1) at
+above-up up n at q p is e =
+    let one : n + 1 ≡ suc n = omega arith in
+    let next : above up 1 q ≡ p = above-more up 0 q ∙ above-zero up (unwrap_or (up q) q) ∙ ap (λ o. unwrap_or o q) e in
+    sym (ap (λ m. above up m at) one ∙ above-over up n at ∙ ap (above up 1) (sym is) ∙ next)
+
+-- the ids at the end of an array, and one more before them
+pub kept-more : (up : ℕ → Option ℕ) (n id at : ℕ) (ids : List ℕ) → length ids ≡ 7 → n < 7 → at ≡ above up n id → drop (7 - n) ids ≡ line up n id
+    → drop (7 - (n + 1)) (slice_set ids (7 - 1 - n) at) ≡ line up (n + 1) id
+kept-more up n id at ids len lt is e =
+    let next : 7 - 1 - n + 1 ≡ 7 - n = omega arith in
+    drop-set_at ids (7 - 1 - n) (7 - (n + 1)) at (omega arith) (omega arith)
+    ∙ ap (λ k. at ∷ drop k ids) next
+    ∙ ap (λ xs. at ∷ xs) e
+    ∙ ap (λ q. q ∷ line up n id) is
+    ∙ sym (line-up up n id)
 
 -- with the id between, and one that leads to it as its parent does
 pub line-parts : (up : ℕ → Option ℕ) (s t n at q p : ℕ) → n ≡ s + suc t → q ≡ above up t at → line up s p ≡ line up s (above up 1 q) → line up n at ≡ line up s p ++ q ∷ line up t at

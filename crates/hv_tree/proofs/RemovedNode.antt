@@ -65,7 +65,7 @@ module _ {T : Type 0} {es : List (Line T)} {n : ℕ} {m : Rows T} (s : IsShown e
   counted : n - 1 ≡ length new
   counted = omega (arith, s.sound.counted, length-grown w.parent q v w.before w.after, ap length w.was, ap length w.is)
 
-  fits : length new < 2 ^ 63
+  fits : length new < 2 ^ 32
   fits = omega (arith, s.sound.fits, length-grown w.parent q v w.before w.after, ap length w.was, ap length w.is)
 
   few : (x : ℕ) → length (children_in x new) < 2 ^ 32

@@ -1,6 +1,6 @@
 -- The way that the index tells leads to the node with the id.
 use Rattle.std.proofs.Common.{◌≡◌, ◌≢◌, ℕ, zero, suc, ◌<◌, true, false, inl, inr, Option, None, Some, [], ◌∷◌, ◌++◌, refl, sym, ap, subst, ◌∙◌, arith, slice_get, option_map, option_and_then}
-use Rattle.std.proofs.Common.{unwrap_or}
+use Rattle.std.proofs.Common.{List, unwrap_or}
 use Rattle.std.proofs.lemmas.Bool.{cases_Bool}
 use Rattle.hv_tree.specs.declared.index.TheConstants.{MOST}
 use Rattle.hv_tree.specs.declared.node.Branch.{Branch}
@@ -112,6 +112,10 @@ module _ {T A : Type 0} (up : ℕ → Option ℕ) (b : Branch T A) (l : IsLaid (
   -- in a tree the way leads to each node that is there
   pub reached : (q : ℕ) → has_row q (lines b) ≡ true → (n : Node T A) × IsReached up q b n
   reached q has = sought MOST q (low q has) has
+
+  -- the ids of a path lead the way
+  pub path-way : (q steps : ℕ) (ids : List ℕ) → steps ≡ depth up MOST q → ids ≡ line up steps q → places ids b ≡ way_to up q b
+  path-way q steps ids deep is = ap (λ l. places l b) (is ∙ ap (λ n. line up n q) deep)
 
   -- the parent of an id is there
   pub has-parent : (q p : ℕ) → up q ≡ Some p → has_row p (lines b) ≡ true

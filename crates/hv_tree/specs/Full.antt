@@ -28,5 +28,5 @@ pub record IsSound {T : Type 0} (es : List (Line T)) (count : ℕ) : Type 0 wher
   pub nest : IsNest es
   pub whole : IsWhole es
   pub counted : count ≡ length es
-  pub fits : length es < 2 ^ 63
+  pub fits : length es < 2 ^ 32
   pub few : (q : ℕ) → length (children_in q es) < 2 ^ 32

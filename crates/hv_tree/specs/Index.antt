@@ -20,7 +20,7 @@ pub record IsLaid {T : Type 0} (es : List (Line T)) (up : ℕ → Option ℕ) : 
   pub distinct : AreDistinct es
   pub indexed : IsIndexOf es up
   pub rising : (q : ℕ) → IsNonDecreasing (children_in q es)
-  pub fits : length es < 2 ^ 63
+  pub fits : length es < 2 ^ 32
 
 -- the invariant of a tree: sound rows, an index of exactly their parents, and children in rising order
 pub record IsKept {T : Type 0} (es : List (Line T)) (count : ℕ) (up : ℕ → Option ℕ) : Type 0 where

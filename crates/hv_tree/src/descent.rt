@@ -1,8 +1,9 @@
 //! The way down to a node from a `&mut`.
 //!
 //! The prover doesn't prove recursions that return a `&mut`. So each type here goes down a bounded number of
-//! steps, by means of the type before it.
-ghost use Rattle.std.specs.Prelude.{◌≡◌, ◌≤◌, ◌+◌, ℕ};
+//! steps, by means of the type before it. `Near` goes along ids that are at hand. `Down` goes as far as any
+//! tree is deep, and asks the index for the ids.
+ghost use Rattle.std.specs.Prelude.{◌≡◌, ◌≤◌, ◌+◌, ℕ, length};
 ghost use Rattle.std.specs.Borrow.{LendsIf, sem};
 ghost use Rattle.std.specs.Option.{option_copied_mut};
 ghost use Rattle.hv_tree.specs.contracts.node.Branch.{the_row as branch_row};
@@ -103,7 +104,57 @@ fn step_toward<'n, T, A: Allocator>(
     node.child_mut(at)
 }
 
-type Twice7<D> = Twice<Twice<Twice<Twice<Twice<Twice<Twice<D>>>>>>>;
+/// A descent along ids, of a bounded number of steps.
+pub(crate) trait Along {
+    // The most ids that it can go along.
+    ghost most: { ℕ };
 
-/// A descent of up to 2⁶³ - 1 steps. No tree is that deep.
-pub(crate) type Down = Twice7<Twice7<Twice7<Twice7<Twice7<Twice7<Twice7<Twice7<Twice7<Stay>>>>>>>>>;
+    /// Returns the node to which the ids lead, each the id of a child of the node before.
+    fn along<'n, T, A: Allocator>(
+        branch: &'n mut Branch<T, A>,
+        ids: &[u64],
+    ) -> Option<&'n mut Node<T, A>>
+        requires rising { AreRising branch.old }
+        requires few { length ids.now ≤ most }
+        ensures* writes_back { sem 𝓛 (LendsIf (branch_row T.row A.row A.Allocator)
+            (node_row T.row A.row A.Allocator) branch.entry result
+            (put_far (places ids.now branch.old) branch.old) branch.old) }
+        ensures value { option_copied_mut result ≡ reach (places ids.now branch.old) branch.old };
+}
+
+impl Along for Stay {
+    ghost most = { 0 };
+
+    fn along<'n, T, A: Allocator>(
+        branch: &'n mut Branch<T, A>,
+        ids: &[u64],
+    ) -> Option<&'n mut Node<T, A>> {
+        Some(branch.node_mut())
+    }
+}
+
+/// A step, and then a descent by `D`.
+pub(crate) struct Then<D: Along>(D);
+
+impl<D: Along> Along for Then<D> {
+    ghost most = { D.most + 1 };
+
+    fn along<'n, T, A: Allocator>(
+        branch: &'n mut Branch<T, A>,
+        ids: &[u64],
+    ) -> Option<&'n mut Node<T, A>> {
+        let Some((next, rest)) = ids.split_first() else {
+            return Some(branch.node_mut());
+        };
+        let child = step_toward(branch.node_mut(), *next)?;
+        D::along(child, rest)
+    }
+}
+
+/// A descent along up to 7 ids.
+pub(crate) type Near = Then<Then<Then<Then<Then<Then<Then<Stay>>>>>>>;
+
+type Twice4<D> = Twice<Twice<Twice<Twice<D>>>>;
+
+/// A descent of up to 2³² - 1 steps. No tree is that deep.
+pub(crate) type Down = Twice4<Twice4<Twice4<Twice4<Twice4<Twice4<Twice4<Twice4<Stay>>>>>>>>;

@@ -9,8 +9,8 @@
 //! - Look-ups, `get_mut`, `update_subtree` and `remove_leaf` take no memory.
 //!
 //! Beside the boxes, an index maps each id to its parent's. A look-up climbs the index from the requested id
-//! to the root. It comes down through the same ids: at each node a binary search finds the next child. For a
-//! `&mut` it counts the steps first, and asks the index for the ids on the way down.
+//! to the root, and keeps the ids that it meets. It comes down along them: at each node a binary search finds
+//! the next child. To a node deeper than 7 it climbs again on the way down.
 //!
 //! `specs/Rows.antt` and `specs/Subtree.antt` define the words of the contracts. `proofs/Laws.antt`,
 //! `proofs/ChildLaws.antt` and `proofs/SubtreeLaws.antt` state what a caller's proof may need of them.
@@ -22,6 +22,7 @@ mod edit;
 mod index;
 mod look_up;
 mod node;
+mod path;
 mod refused;
 mod relative;
 mod tree;

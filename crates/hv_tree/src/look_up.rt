@@ -1,18 +1,18 @@
 //! Look-ups of a node by its id.
-ghost use Rattle.std.specs.Prelude.{◌≡◌, IfSome, IfNone, true, false};
+ghost use Rattle.std.specs.Prelude.{◌≡◌, IfSome, IfNone, true, false, option_copied};
 ghost use Rattle.std.specs.Borrow.{LendsIf, sem};
 ghost use Rattle.hv_tree.specs.contracts.node.Branch.{the_row as branch_row};
 ghost use Rattle.hv_tree.specs.contracts.node.Node.{the_row as node_row};
-ghost use Rattle.hv_tree.specs.declared.index.TheConstants.{MOST};
 ghost use Rattle.hv_tree.specs.Index.{parents, IsLaid};
 ghost use Rattle.hv_tree.specs.Lines.{lines};
 ghost use Rattle.hv_tree.specs.Nest.{has_row};
-ghost use Rattle.hv_tree.specs.Put.{put_far, put_content_far, IsContentAt};
-ghost use Rattle.hv_tree.specs.Way.{depth, way_to, IsReached};
+ghost use Rattle.hv_tree.specs.Put.{put_far, put_content_far, reach, IsContentAt};
+ghost use Rattle.hv_tree.specs.Way.{places, way_to, AreRising, IsReached};
 
-use crate::descent::{Down, Toward};
-use crate::index::{Index, MOST, parent_in};
+use crate::descent::{Along, Down, Near, Toward};
+use crate::index::{Index, parent_in};
 use crate::node::{Branch, Node};
+use crate::path::climb;
 use std::alloc::Allocator;
 
 /// Returns `true` if a node has the id.
@@ -21,28 +21,6 @@ pub(crate) fn is_there<T, A: Allocator>(root: &Branch<T, A>, index: &Index<A>, i
     ensures { result ≡ has_row id (lines root.now) }
 {
     id == root.node.id || parent_in(index, id).is_some()
-}
-
-/// The number of nodes above the one with the id.
-pub(crate) fn depth_in<T, A: Allocator>(
-    root: &Branch<T, A>,
-    index: &Index<A>,
-    id: u64,
-) -> Option<u64>
-    requires { IsLaid (lines root.now) (parents index.now) }
-    ensures found { IfSome result (λ _. has_row id (lines root.now) ≡ true) }
-    ensures depth { IfSome result (λ d. d ≡ depth (parents index.now) MOST id) }
-    ensures none { IfNone result (has_row id (lines root.now) ≡ false) }
-{
-    let mut at = id;
-    for step in 0..MOST {
-        if at == root.node.id {
-            return Some(step);
-        }
-        let parent = parent_in(index, at)?;
-        at = parent;
-    }
-    None
 }
 
 /// The node with the id.
@@ -55,11 +33,40 @@ pub(crate) fn seek<'t, T, A: Allocator>(
     ensures found { IfSome result (λ n. IsReached (parents index.now) id root.now n.now) }
     ensures none { IfNone result (has_row id (lines root.now) ≡ false) }
 {
+    let path = climb(root, index, id)?;
+    match path.ids() {
+        Some(ids) => go_along(root, ids),
+        None => seek_far(root, index, id),
+    }
+}
+
+// The node to which the ids lead, each the id of a child of the node before.
+fn go_along<'t, T, A: Allocator>(branch: &'t Branch<T, A>, ids: &[u64]) -> Option<&'t Node<T, A>>
+    requires { AreRising branch.now }
+    ensures { option_copied result ≡ reach (places ids.now branch.now) branch.now }
+{
+    let Some((next, rest)) = ids.split_first() else {
+        return Some(&branch.node);
+    };
+    let child = branch.node.branch(*next)?;
+    go_along(child, rest)
+}
+
+// The node with the id, however deep. It climbs to the root, and comes down as it returns.
+fn seek_far<'t, T, A: Allocator>(
+    root: &'t Branch<T, A>,
+    index: &Index<A>,
+    id: u64,
+) -> Option<&'t Node<T, A>>
+    requires { IsLaid (lines root.now) (parents index.now) }
+    ensures found { IfSome result (λ n. IsReached (parents index.now) id root.now n.now) }
+    ensures none { IfNone result (has_row id (lines root.now) ≡ false) }
+{
     if id == root.node.id {
         return Some(&root.node);
     }
     let parent = parent_in(index, id)?;
-    let node = seek(root, index, parent)?;
+    let node = seek_far(root, index, parent)?;
     let child = node.child(id)?;
     Some(child)
 }
@@ -77,8 +84,11 @@ pub(crate) fn seek_mut<'t, T, A: Allocator>(
     ensures found { IfSome result (λ r. IsReached (parents index.now) id root.old r.now) }
     ensures none { IfNone result (has_row id (lines root.old) ≡ false) }
 {
-    let steps = depth_in(root, index, id)?;
-    Down::toward(root, index, id, steps)
+    let path = climb(root, index, id)?;
+    match path.ids() {
+        Some(ids) => Near::along(root, ids),
+        None => Down::toward(root, index, id, path.steps),
+    }
 }
 
 /// Returns a mutable reference to the content of the node with the id.

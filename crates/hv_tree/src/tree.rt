@@ -16,8 +16,9 @@ ghost use Rattle.hv_tree.specs.Lines.{lines};
 use crate::change::{edit_below, graft, prune, reserve};
 use crate::edit::Edit;
 use crate::index::{Index, MOST, forget, parent_in};
-use crate::look_up::{content_at, depth_in, is_there, seek};
+use crate::look_up::{content_at, is_there, seek};
 use crate::node::Branch;
+use crate::path::climb;
 use crate::refused::{InsertRefused, ReserveRefused};
 use crate::relative::Relative;
 use indexmap::IndexMap;
@@ -91,7 +92,8 @@ impl<T, A: Allocator> IdTree<T, A> {
         ensures depth { IfSome result (HasDepth self.now id) }
         ensures tree { IsTree self.now }
     {
-        depth_in(&self.root, &self.index, id)
+        let path = climb(&self.root, &self.index, id)?;
+        Some(path.steps)
     }
 
     /// The number of a node's children, or `None` if no node has the id.
