@@ -1,11 +1,11 @@
 #!/usr/bin/env bash
-# What `hvpm` takes for scripts of the largest size, 1,048,576 bytes, of five kinds: calls for the caller's
-# own id; rep calls of 255 elements; messages that are posted, read and cleared; partitions that are made and
-# deleted; and lines of which each names another processor, 64 in a phase. Beside time and memory it prints
-# the instructions of an event, as valgrind counts them, which are the same on every machine: those of the
-# whole script less those of its first line. Of the first four kinds peak memory should stay within that of
-# one line and twenty times the script's bytes, and no event should be refused. Of the last each is, since the
-# processors aren't there.
+# What `hvpm` takes for scripts of the largest size, 1,048,576 bytes, of six kinds: calls for the caller's own
+# id; rep calls of 255 elements; messages that are posted, read and cleared; partitions that are made and
+# deleted; partitions that get every second of 16,000 pages and are deleted with them; and lines of which each
+# names another processor, 64 in a phase. Beside time and memory it prints the instructions of an event, as
+# valgrind counts them, which are the same on every machine: those of the whole script less those of its first
+# line. Of the first five kinds peak memory should stay within that of one line and twenty times the script's
+# bytes, and no event should be refused. Of the last each is, since the processors aren't there.
 set -eu
 [[ ${1:-} != --help ]] || { sed -n '2,/^[^#]/s/^# \{0,1\}//p' -- "${BASH_SOURCE[0]}"; exit; }
 
@@ -42,8 +42,18 @@ make() {
             call("0x96", 0, bytes(1, 8) bytes(7, 8) bytes(1, 8) bytes(5, 8) bytes(1, 4))
         }
 
+        # Every second of 16,000 pages for a partition, 500 a call.
+        function deposit_scattered(id,    page, i, block) {
+            for (page = 2000; page < 18000; page += 1000) {
+                block = bytes(id, 8)
+                for (i = 0; i < 1000; i += 2) block = block bytes(page + i, 8)
+                call("0x000001f400000048", 0, block)
+            }
+        }
+
         BEGIN {
-            line("boot 32 12 1 0x000000f700000044 4294967295")
+            sizes = kind == "scattered" ? "65536 1024" : "32 12"
+            line("boot " sizes " 1 0x000000f700000044 4294967295")
             if (kind == "messages") begin_messages()
             names = bytes(1, 8) bytes(0, 8)
             for (i = 0; i < 255; i++) names = names bytes(131072 + i % 18, 4)
@@ -58,6 +68,11 @@ make() {
                     call("0x40", 0, "-")
                     call("0x10043", id, "-")
                 }
+                if (kind == "scattered") {
+                    call("0x40", 0, "-")
+                    deposit_scattered(id)
+                    call("0x10043", id, "-")
+                }
                 if (kind == "processors") {
                     if (id > 2 && (id - 2) % 64 == 0) line("phase")
                     line("1." (id - 2) " interrupt")
@@ -69,7 +84,7 @@ make() {
     head -n 1 -- "$folder/$1.hv" >"$folder/boot.hv"
 }
 
-for kind in id reps messages partitions processors; do
+for kind in id reps messages partitions scattered processors; do
     make "$kind"
     echo "== $kind, $(stat -c %s "$folder/$kind.hv") bytes"
     measure "$program" "$folder/$kind.hv"
