@@ -15,7 +15,7 @@ use Rattle.hv_tree.proofs.Laws.{get-change}
 use Rattle.hv_tree.specs.Rows.{Row, Rows, change}
 use Rattle.hv_vp.specs.Vp.{VpState}
 
-abbrev made_final : PartRow → PartRow
+abbrev pub made_final : PartRow → PartRow
 made_final row = record row { life = Finalized }
 
 module _ (rows : Rows PartitionState) (f : Flat) (flat : Refines rows f) where

@@ -10,14 +10,17 @@ use Rattle.std.specs.List.{list_any}
 use Rattle.std.specs.Option.{option_map_or}
 use Rattle.std.specs.Ordering.{eq_by_cmp}
 use Rattle.hv_calls.specs.declared.call.Call.TheVariants.{DeletePartition, FinalizePartition}
+use Rattle.hv_defs.proofs.Maps.{get_at-remove}
 use Rattle.hv_defs.specs.Flags.{pair_cmp}
+use Rattle.hv_defs.specs.declared.life.Life.TheVariants.{Finalized}
 use Rattle.hv_effect.proofs.PagesAndVps.{finalized_told, no_pages_told, none_finalized, pages_told, passed_on}
 use Rattle.hv_effect.proofs.ProcessorChange.{still_there}
 use Rattle.hv_effect.specs.Effect.{HasPage, Tells, was_of}
 use Rattle.hv_effect.specs.declared.effect.Effect.TheVariants as variant
 use Rattle.hv_pages.specs.PageSet.{Pages}
 use Rattle.hv_partition.specs.Partition.{PartitionState, finalized}
-use Rattle.hv_policy.specs.Effect.{rows_but}
+use Rattle.hv_policy.proofs.Rows.{get-with_row}
+use Rattle.hv_policy.specs.Effect.{rows_but, with_row}
 use Rattle.hv_policy.specs.Flat.{ConnRow, Flat, PageRow, PartRow, PortRow}
 use Rattle.hv_policy.specs.Mail.{mail_but}
 use Rattle.hv_policy.specs.Needs.{target_of}
@@ -26,11 +29,11 @@ use Rattle.hv_refine.proofs.FoundRow.{content_row}
 use Rattle.hv_refine.proofs.StateInvariant.{UsesNothing}
 use Rattle.hv_refine.specs.Asked.{IsGranted}
 use Rattle.hv_refine.specs.Done.{HasServed}
-use Rattle.hv_refine.specs.Tie.{Refines, here, holds, is_held, rows_of, sint_mail, mail_there, vp_row, vp_row_of}
+use Rattle.hv_refine.specs.Tie.{Refines, here, holds, is_held, part_row, rows_of, sint_mail, mail_there, vp_row, vp_row_of}
 use Rattle.hv_tree.specs.Rows.{Row, Rows, change, content}
 use Rattle.hv_vp.specs.Vp.{VpState}
 use Rattle.hv_partition_calls.proofs.DeletedPartition.{deleted_tied}
-use Rattle.hv_partition_calls.proofs.LifeChanges.{closed_tied}
+use Rattle.hv_partition_calls.proofs.LifeChanges.{closed_tied, made_final}
 use Rattle.hv_partition_calls.proofs.LentPartition.{is_deleted, was_there}
 use Rattle.hv_partition_calls.proofs.Needs.{is_ending}
 use Rattle.hv_partition_calls.specs.Change.{HasRoom, HasTakenOver, MayDelete, effect_of_pages, has_vps, is_pageless}
@@ -94,12 +97,13 @@ module _ (rows : Rows PartitionState) (f : Flat) (flat : Refines rows f) (id : �
   has_none false b loose pooled none page = cc
 
   -- its pages pass on
-  pub deleting_told : (to : ℕ) (part : FinMap nat_cmp PartRow) → id ≢ to → Tells (effect_of_pages id to p) f (passed_on f id to part)
-  deleting_told to part apart = by (is_pageless p) refl
+  pub deleting_told : (to : ℕ) (part : FinMap nat_cmp PartRow) → contains_key part id ≡ false → id ≢ to
+      → Tells (effect_of_pages id to p) f (passed_on f id to part)
+  deleting_told to part left apart = by (is_pageless p) refl
     where
       by : (b : Bool) → is_pageless p ≡ b → Tells (cond b variant.Nothing (variant.Pages id to)) f (passed_on f id to part)
       by true none = no_pages_told f id to part (has_none (set.len p.loose.pages == 0) (set.len p.pooled.pages == 0) refl refl none)
-      by false some = pages_told f id to part (has_page (set.len p.loose.pages == 0) (set.len p.pooled.pages == 0) refl refl some) apart
+      by false some = pages_told f id to part left (has_page (set.len p.loose.pages == 0) (set.len p.pooled.pages == 0) refl refl some) apart
 
   vp_at : (vp : ℕ) → contains_key f.vp (id, vp) ≡ contains_key p.vps.vps vp
   vp_at vp =
@@ -110,14 +114,14 @@ module _ (rows : Rows PartitionState) (f : Flat) (flat : Refines rows f) (id : �
   abbrev ended : FinMap nat_cmp PartRow → FinMap pair_cmp PortRow → FinMap pair_cmp ConnRow → Flat
   ended part ports conns = record f { part = part; vp = rows_but id f.vp; port = ports; conn = conns; mail = mail_but id f.mail }
 
-  pub ending_told : (part : FinMap nat_cmp PartRow) (ports : FinMap pair_cmp PortRow) (conns : FinMap pair_cmp ConnRow) → Tells (cond (has_vps p) (variant.Partition id) variant.Nothing) f
-      (ended part ports conns)
-  ending_told part ports conns = by (finmap.len p.vps.vps == 0) refl
+  pub ending_told : (part : FinMap nat_cmp PartRow) (ports : FinMap pair_cmp PortRow) (conns : FinMap pair_cmp ConnRow)
+      → option_map (λ row. row.life) (get part id) ≡ Some Finalized → Tells (cond (has_vps p) (variant.Partition id) variant.Nothing) f (ended part ports conns)
+  ending_told part ports conns life = by (finmap.len p.vps.vps == 0) refl
     where
       by : (b : Bool) → finmap.len p.vps.vps == 0 ≡ b → Tells (cond (not b) (variant.Partition id) variant.Nothing) f (ended part ports conns)
       by false some =
           let (vp, held) = some_key p.vps.vps some in
-          finalized_told f id part ports conns (record { vp = vp; is = vp_at vp ∙ held })
+          finalized_told f id part ports conns life (record { vp = vp; is = vp_at vp ∙ held })
       by true none =
           let (r, is, same) = content_row rows id p (sym there) in
           let empty : p.vps.vps ≡ finmap.empty = finmap.empty_of_len p.vps.vps (eqb-true (finmap.len p.vps.vps) 0 none) in
@@ -135,10 +139,14 @@ has_finalized rows caller partition id named g f flat staffed is new changed =
     let target = target_of (FinalizePartition partition) caller in
     let (r, at) = target_row rows t.flat t.tied caller (FinalizePartition partition) (admitted_allowed rows caller (FinalizePartition partition) g.admitted g.met) in
     let there : content rows target ≡ Some r.1 = ap (option_map (λ r. r.1)) at in
+    let life : option_map (λ row. row.life) (get (with_row f.part target made_final) target) ≡ Some Finalized =
+    ap (option_map (λ (row : PartRow). row.life)) (get-with_row f.part target made_final target
+    ∙ ap (λ t. cond t (option_map made_final (get f.part target)) (get f.part target)) (eq-eqb target target refl)
+    ∙ ap (option_map made_final) ((flat.rows target).part ∙ ap (option_map part_row) at)) in
     record {
       output = refl;
       rows = rw (changed, named) (closed_tied rows f flat target);
-      told = rw (is, named, there) (ending_told rows f flat target r.1 there _ _ _);
+      told = rw (is, named, there) (ending_told rows f flat target r.1 there _ _ _ life);
     }
 
 -- a deleted partition's pages pass to the caller
@@ -155,5 +163,5 @@ has_deleted rows roomy new caller partition id runs is may room gone was taken f
       rows = subst (λ n. Refines new (passed_on f n caller (remove f.part n))) is (deleted_tied rows f flat new caller id e.apart d idle);
       told = subst (λ n. Tells (effect_of_pages id caller gone) f (passed_on f n caller (remove f.part n))) is
           (deleting_told rows f flat id gone (was_there rows roomy caller id runs e room gone was) caller (remove f.part id)
-          (λ same. (let both = sym (eq-eqb id caller same) ∙ e.apart in cc)));
+          (ap is_some (get_at-remove f.part id id ∙ ap (λ b. cond b None (get f.part id)) (eq-eqb id id refl))) (λ same. (let both = sym (eq-eqb id caller same) ∙ e.apart in cc)));
     }

@@ -2,7 +2,8 @@
 use Rattle.std.proofs.Common.{◌≡◌, ◌≢◌, ℕ, ◌==◌, Bool, true, false, cond, ◌&&◌, ◌||◌, not, Option, Some, None, is_some, refl, sym, ap, ◌∙◌, subst, eqb-true, eq-eqb, option_map, nat_cmp}
 use Rattle.std.proofs.lemmas.Iterator.Adapters.{option_map_id}
 use Rattle.std.specs.Cmp.{nat_cmp_total, unsigned_tied}
-use Rattle.std.specs.FinMap.{FinMap, get, insert, remove, nat_cmp-IsAntisymmetric, same_map}
+use Rattle.std.specs.FinMap.{FinMap, contains_key, get, insert, remove, nat_cmp-IsAntisymmetric, same_map}
+use Rattle.std.specs.Option.{option_map_or}
 use Rattle.std.specs.FinSet as set
 use Rattle.hv_effect.proofs.PagesAndVps.{page_told}
 use Rattle.hv_effect.specs.Effect.{Tells}
@@ -17,7 +18,7 @@ use Rattle.hv_tree.proofs.Laws.{get-change, change-of, same_rows}
 use Rattle.hv_tree.specs.Rows.{Row, Rows, content, change}
 use Rattle.hv_refine.proofs.PageHolders.{apart_sets, held_alone, held_by_owner}
 use Rattle.hv_refine.specs.Room.{IsSameButRoom, bare}
-use Rattle.hv_refine.specs.Tie.{Refines, PartitionRelation, holds, is_held}
+use Rattle.hv_refine.specs.Tie.{Refines, PartitionRelation, holds, is_held, part_row}
 use Rattle.hv_partition_calls.specs.PoolChange.{CanGain, CanHold, HasGained, HasLost, HasPages, MayMove, kind_of, moved_to, pages_at, with_pages_at}
 
 -- a partition that was lent, and its pages of a kind changed
@@ -225,8 +226,18 @@ module _ (old : Rows PartitionState) (from to page : ℕ) (pooled : Bool) (may :
   apart true held there = neither (to == from) (sym (ap (is_held from true) there) ∙ held)
   apart false held there = neither (to == from) (sym (ap (is_held from false) there) ∙ held)
 
+  -- its owner is there
+  owner_there : option_map_or (λ row. contains_key f.part row.owner) (get f.page page) false ≡ true
+  owner_there = by (get f.page page) held_from
+    where
+      by : (row : Option PageRow) → is_held from pooled row ≡ true → option_map_or (λ row. contains_key f.part row.owner) row false ≡ true
+      by None held = cc
+      by (Some row) held =
+          let (r, at, same) = pages_row old from (kind_of pooled) may.source may.had in
+          ap (contains_key f.part) (sym (held_alone row from pooled held).0) ∙ ap is_some ((flat.rows from).part ∙ ap (option_map part_row) at)
+
   pub move_told : Tells (variant.Page page to (not pooled)) f (moved_to f page to (not pooled))
-  move_told = page_told f page to (not pooled) (apart pooled held_from)
+  move_told = page_told f page to (not pooled) owner_there (apart pooled held_from)
 
 -- a page that moves from one kind of `from` to the other kind of `to`
 module _ (old left : Rows PartitionState) (from to page : ℕ) (pooled : Bool) (may : MayMove old from to page pooled) (lost : HasPages old left from (kind_of pooled) (HasLost page)) where
