@@ -61,7 +61,7 @@ static void hear_of_messages_taken(void) {
         for (unsigned vp = 0; vp < guest->vps; vp++) {
             hvpm_pages *pages = &guest->vcpu[vp].pages;
             if (pages->shown != 0) must(hvpm_pages_before(&machine, pages));
-            if (pages->freed) pages->freed = false, vmbus_has_room();
+            if (pages->freed) pages->freed = false, vmbus_has_room(guest);
         }
 }
 

@@ -42,11 +42,14 @@ struct guest {
     unsigned vps;
     struct vcpu vcpu[MAX_VPS];
     const struct engine *engine;
+    const char *kernel;
+    bool is_hostile; /* nothing is asked of it but its end */
     uint8_t *ram;
     uint64_t ram_size;
     hvpm_guest own;   /* the MSRs that are the hypervisor's own */
     bool has_started; /* TCG: a reset after the first one is the guest's */
     _Atomic bool ended;
+    _Atomic unsigned notes; /* how often the VMM told what it does */
     int control; /* TCG: the socket of interrupts and resets. KVM: the VM */
 };
 
@@ -57,7 +60,7 @@ extern struct guest guests[MAX_GUESTS];
 extern struct options {
     unsigned vps, children, beats, offers, delay;
     bool root, reload, restart, unload;
-    const char *kernel, *initrd, *acpi, *append, *qemu, *roms, *bios;
+    const char *kernel, *hostile, *initrd, *acpi, *append, *qemu, *roms, *bios;
 } options;
 
 /*
@@ -87,7 +90,8 @@ void identity_reset(struct guest *guest);
 void vmbus_start(void);
 void vmbus_add(struct guest *guest);
 void vmbus_reset(struct guest *guest);
-void vmbus_has_room(void); /* a message left a slot: a post that was refused may be served now */
+/* A message left a slot of the guest: a post that was refused may be served now. */
+void vmbus_has_room(const struct guest *guest);
 bool vmbus_is_done(void);  /* the children did all that the options ask of them */
 
 /* The record of a run: its audit, and its events as a script. Lines of guests, core and VMM in one log. */
@@ -95,6 +99,7 @@ void record_start(void); /* into the working directory */
 void record_end(uint64_t events);
 void say_guest(const struct guest *guest, const char *text);
 void note(const char *format, ...) __attribute__((format(printf, 1, 2)));
+void note_of(struct guest *guest, const char *format, ...) __attribute__((format(printf, 2, 3)));
 _Noreturn void die(const char *format, ...) __attribute__((format(printf, 1, 2)));
 
 void start_thread(void *(*run)(void *), void *of);

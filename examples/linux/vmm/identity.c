@@ -21,13 +21,13 @@ bool identity_cpuid(struct guest *guest, uint32_t index, uint32_t leaf[4]) {
 }
 
 bool identity_rdmsr(struct vcpu *vcpu, uint32_t msr, uint64_t *value) {
-    const struct guest *guest = vcpu->guest;
+    struct guest *guest = vcpu->guest;
     const uint64_t mask = enter_for_mask(guest);
     const enum hvpm_guest_access access =
         hvpm_guest_read_msr(&guest->own, vcpu->pages.of.vp, mask, msr, value);
     core_leave(HVPM_STATUS_OK, NULL);
     if (access == HVPM_GUEST_MACHINE) return core_read_msr(vcpu, msr, value);
-    if (access != HVPM_GUEST_DONE) note("RDMSR 0x%" PRIx32 ": #GP", msr);
+    if (access != HVPM_GUEST_DONE) note_of(guest, "RDMSR 0x%" PRIx32 ": #GP", msr);
     return access == HVPM_GUEST_DONE;
 }
 
@@ -41,11 +41,11 @@ bool identity_wrmsr(struct vcpu *vcpu, uint32_t msr, uint64_t value) {
     case HVPM_GUEST_MACHINE: return core_write_msr(vcpu, msr, value);
     case HVPM_GUEST_CODE:
         guest->engine->put_code(vcpu, at);
-        note("%" PRIu64 ".%" PRIu32 " has its hypercall page at 0x%" PRIx64, guest->id, vcpu->pages.of.vp,
-             at);
+        note_of(guest, "%" PRIu64 ".%" PRIu32 " has its hypercall page at 0x%" PRIx64, guest->id,
+                vcpu->pages.of.vp, at);
         return true;
     case HVPM_GUEST_DONE: return true;
-    default: note("WRMSR 0x%" PRIx32 " 0x%" PRIx64 ": #GP", msr, value); return false;
+    default: note_of(guest, "WRMSR 0x%" PRIx32 " 0x%" PRIx64 ": #GP", msr, value); return false;
     }
 }
 
@@ -69,8 +69,8 @@ static uint64_t serve_call(struct vcpu *vcpu, const hvpm_registers *call) {
 bool identity_hypercall(struct vcpu *vcpu, hvpm_guest_cpu *cpu) {
     hvpm_registers call;
     if (!hvpm_guest_call(cpu, &call)) {
-        note("%" PRIu64 ".%" PRIu32 " makes a hypercall outside its kernel: #UD", vcpu->pages.of.partition,
-             vcpu->pages.of.vp);
+        note_of(vcpu->guest, "%" PRIu64 ".%" PRIu32 " makes a hypercall outside its kernel: #UD",
+                vcpu->pages.of.partition, vcpu->pages.of.vp);
         return false;
     }
     hvpm_guest_return(cpu, serve_call(vcpu, &call));

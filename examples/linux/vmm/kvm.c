@@ -272,7 +272,7 @@ static uint64_t load_elf(const struct guest *guest, const uint8_t *image) {
     for (unsigned left = image[56]; left > 0; left--, segment += 56) {
         const uint64_t at = hvpm_number(segment + 24), len = hvpm_number(segment + 32);
         if (segment[0] != 1) continue;
-        if (at > RAM_SIZE || len > RAM_SIZE - at) die("%s has a segment out of memory", options.kernel);
+        if (at > RAM_SIZE || len > RAM_SIZE - at) die("%s has a segment out of memory", guest->kernel);
         memcpy(guest->ram + at, image + hvpm_number(segment + 8), len);
     }
     return hvpm_number(image + 24);
@@ -282,13 +282,13 @@ static uint64_t load_elf(const struct guest *guest, const uint8_t *image) {
  * alone. Answers where the guest begins. */
 static uint64_t load_kernel(const struct guest *guest) {
     static uint8_t image[64 << 20];
-    const size_t size = load(options.kernel, image, sizeof image),
+    const size_t size = load(guest->kernel, image, sizeof image),
                  setup = 512 * (size_t)((image[0x1F1] ? image[0x1F1] : 4) + 1);
     const uint64_t map[][3] = {{0, 0x9FC00, 1}, {0x9FC00, 0x60400, 2}, {0x100000, RAM_SIZE - 0x100000, 1}};
     uint8_t *ram = guest->ram, *p = ram + PARAMS;
     if (memcmp(image, "\177ELF", 4) == 0) return load_elf(guest, image);
     if (memcmp(image + 0x202, "HdrS", 4) != 0 || size <= setup || !(image[0x236] & 1))
-        die("%s is no 64-bit kernel", options.kernel);
+        die("%s is no 64-bit kernel", guest->kernel);
     load_acpi(guest);
     memcpy(p + 0x1F1, image + 0x1F1, 0x202 + image[0x201] - 0x1F1);
     memcpy(ram + KERNEL, image + setup, size - setup);

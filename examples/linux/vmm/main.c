@@ -16,7 +16,8 @@ static const char usage[] =
     "usage: vmm --engine kvm|tcg --kernel FILE [--initrd FILE --acpi FILE --append WORDS]"
     " [--qemu FILE --roms FOLDER --bios FILE]\n"
     "           [--vps N] [--children N] [--beats N] [--offers N] [--delay MILLISECONDS] [--seconds N]\n"
-    "           [--root | --reload | --restart | --unload]\n"
+    "           [--root | --reload | --restart | --unload | --hostile FILE]\n"
+    "--hostile is a kernel for the first child, of which nothing is asked but its end.\n"
     "Writes the files audit and events.hv into the working directory, and a log to standard output. A run"
     " that takes longer than --seconds, or that SIGINT or SIGTERM ends, has both, too.\n";
 
@@ -100,7 +101,7 @@ static const struct engine *read_options(int argc, char **argv, unsigned *second
         {"beats", 1, NULL, 'b'},  {"offers", 1, NULL, 'o'}, {"seconds", 1, NULL, 's'},
         {"root", 0, NULL, 'r'},   {"reload", 0, NULL, 'l'}, {"restart", 0, NULL, 't'},
         {"delay", 1, NULL, 'd'},  {"unload", 0, NULL, 'u'}, {"bios", 1, NULL, 'B'},
-        {NULL, 0, NULL, 0}};
+        {"hostile", 1, NULL, 'H'}, {NULL, 0, NULL, 0}};
     const struct engine *engine = NULL;
     options.append = "console=ttyS0 panic=-1",
     options.initrd = options.acpi = options.qemu = options.roms = "", options.bios = "bios-256k.bin";
@@ -127,6 +128,7 @@ static const struct engine *read_options(int argc, char **argv, unsigned *second
         case 't': options.restart = true; break;
         case 'u': options.unload = true; break;
         case 'B': options.bios = optarg; break;
+        case 'H': options.hostile = optarg; break;
         default: die("%s", usage);
         }
     if (!engine || !options.kernel || optind != argc) die("%s", usage);
@@ -165,7 +167,9 @@ int main(int argc, char **argv) {
     if (!options.root) vmbus_start();
     struct guest *const first = options.root ? guests : guests + 1;
     running = options.root ? 1 : options.children;
-    for (struct guest *guest = first; guest < first + running; guest++) guest->engine = engine;
+    for (struct guest *guest = first; guest < first + running; guest++)
+        guest->engine = engine, guest->kernel = options.kernel;
+    if (options.hostile) first->kernel = options.hostile, first->is_hostile = true;
     for (struct guest *guest = first, *end = first + running; guest < end; guest++) engine->start(guest);
     start_thread(wait_for_signal, NULL);
     alarm(seconds);

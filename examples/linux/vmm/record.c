@@ -12,7 +12,8 @@
 #include <string.h>
 #include <unistd.h>
 
-enum { SHOWN = 4000 }; /* lines of the audit that the log has: a long run would bury the guests' */
+enum { SHOWN = 4000 }; /* lines of the audit, and of each guest's doings, that the log has: a long run would
+                          bury the guests' own */
 
 static FILE *audit, *script;
 
@@ -39,14 +40,30 @@ void note(const char *format, ...) {
     say("vmm", text, strlen(text));
 }
 
+/* What a guest makes the VMM say: it can't fill a disk. */
+void note_of(struct guest *guest, const char *format, ...) {
+    char text[512];
+    va_list of;
+    if (++guest->notes > SHOWN) return;
+    va_start(of, format);
+    vsnprintf(text, sizeof text, format, of);
+    va_end(of);
+    say("vmm", text, strlen(text));
+    if (guest->notes == SHOWN) note("nothing more is told of what partition %" PRIu64 " does", guest->id);
+}
+
+/* The reason comes first. Only the files of this VMM are flushed: a thread that reads holds its file's lock
+ * for as long as it waits. */
 void die(const char *format, ...) {
     char text[512];
     va_list of;
     va_start(of, format);
     vsnprintf(text, sizeof text, format, of);
     va_end(of);
-    fflush(NULL);
     fprintf(stderr, "vmm: %s\n", text);
+    fflush(stdout);
+    if (audit) fflush(audit);
+    if (script) fflush(script);
     _exit(1);
 }
 

@@ -96,7 +96,7 @@ static _Noreturn void become_qemu(const struct guest *guest, const int ends[], i
     const char *words[40] = {
         options.qemu, "-accel", "tcg,thread=multi", "-M", "pc,memory-backend=ram", "-object", ram, "-m",
         "256", "-cpu", "qemu64", "-smp", vps, "-nodefaults", "-display", "none", "-vga", "none", "-serial",
-        "stdio", "-L", options.roms, "-bios", options.bios, "-kernel", options.kernel};
+        "stdio", "-L", options.roms, "-bios", options.bios, "-kernel", guest->kernel};
     size_t count = 0;
     while (words[count]) count++;
     if (options.acpi[0]) words[count++] = "-acpitable", words[count++] = acpi;

@@ -9,6 +9,7 @@
 #include <inttypes.h>
 #include <pthread.h>
 #include <semaphore.h>
+#include <stdio.h>
 #include <string.h>
 #include <time.h>
 #include <unistd.h>
@@ -41,6 +42,10 @@ enum { MESSAGES_OLD = 1, MESSAGES = 4, TO_CHILD = 2, SIGNAL_CHILD = 3, EVENT = 0
 
 enum { HEARTBEAT = 1, SHUTDOWN = 2, CHANNELS = 3, OUTBOX = 512 };
 
+/* How many messages, and how many packets of a channel, the root serves before it looks at the other guests:
+ * one that never stops keeps nobody waiting. */
+enum { TURN = 16 };
+
 struct channel {
     /* the ring that the guest writes ends at page `down`, and there the other begins */
     uint32_t gpadl, pages, down;
@@ -52,13 +57,15 @@ static struct bus {
     struct guest *guest;
     struct channel channels[CHANNELS];
     unsigned contacts; /* versions that were accepted: one in each life of the guest's hv_vmbus */
-    unsigned beats, stalls;
+    unsigned beats, stalls, losses;
+    uint8_t signalled; /* bit ID: channel ID may have packets */
     uint64_t first_event, last_event; /* the machine's count of events at the first heartbeat
                                          and after the last */
     bool was_asked;                   /* to shut down or to restart */
     bool has_offers, has_unloaded;    /* it got all offers, and let VMBus go after that */
     uint8_t outbox[OUTBOX][256];      /* messages that wait for room: byte 0 is their length */
     unsigned sent, posted;
+    _Atomic bool is_full; /* the port took no more, and no slot of the guest was freed since */
 } buses[MAX_GUESTS];
 
 /* of all buses; the machine's lock is taken inside it */
@@ -73,7 +80,10 @@ static void wake(struct vcpu *vcpu, uint8_t vector, bool has_auto_eoi) {
     (void)vcpu, (void)vector, (void)has_auto_eoi, sem_post(&raised);
 }
 static const struct engine root_engine = {NULL, wake, NULL};
-void vmbus_has_room(void) { sem_post(&raised); }
+void vmbus_has_room(const struct guest *guest) {
+    buses[guest - guests].is_full = false;
+    sem_post(&raised);
+}
 
 /* Takes the message from the slot as a guest does, and writes EOM where another one waits. */
 static bool take_message(uint8_t message[256]) {
@@ -142,27 +152,49 @@ void vmbus_add(struct guest *guest) {
 
 /* ---- messages ---- */
 
+/* What can't be delivered is the guest's loss, and told once. The guest may turn its SynIC off at any moment,
+ * in a restart, a kexec or a hibernation as much as in an attack, and rule P22 then refuses a post or signal;
+ * or it takes no messages. */
+static void lose(struct bus *bus, const char *what) {
+    if (bus->losses++ == 0)
+        note("partition %" PRIu64 " loses %s, and what else can't be delivered", bus->guest->id, what);
+}
+
+/* Answers whether the reply's post or signal was delivered. */
+static bool is_delivered(struct bus *bus, const char *what) {
+    char text[64];
+    if (reply.kind == HVPM_REPLY_SERVED) return true;
+    snprintf(text, sizeof text, "%s to rule %s", what, hvpm_rule_name(reply.rule));
+    lose(bus, text);
+    return false;
+}
+
 /* Posts what waits, until the port has no room.
  * The effect that frees a slot there comes to vmbus_has_room. */
 static void post_waiting(struct bus *bus) {
     const uint32_t connection = 0x100 * (uint32_t)(bus - buses) + TO_CHILD;
-    for (; bus->posted != bus->sent; bus->posted++) {
+    for (; bus->posted != bus->sent && !bus->is_full; bus->posted++) {
         const uint8_t *message = bus->outbox[bus->posted % OUTBOX];
+        bus->is_full = true; /* before the post, so that a slot that is freed after it isn't missed */
         core_leave(
             hvpm_post_message(core_enter(), ROOT, connection, 1, message + 1, message[0], &reply, NULL, 0),
             &reply);
         if (reply.result == HV_STATUS_INSUFFICIENT_BUFFERS) return;
-        if (reply.kind != HVPM_REPLY_SERVED) die("HvPostMessage is denied by rule P%" PRIu32, reply.rule);
+        bus->is_full = false;
+        (void)is_delivered(bus, "a message");
     }
 }
 
 static void post(struct bus *bus, const uint8_t *payload, uint8_t len) {
     uint8_t *message = bus->outbox[bus->sent % OUTBOX];
-    if (bus->sent - bus->posted == OUTBOX) die("the guest takes no messages");
+    if (bus->sent - bus->posted == OUTBOX) {
+        lose(bus, "a message, since it takes none");
+        return;
+    }
     message[0] = len;
     memcpy(message + 1, payload, len);
     bus->sent++;
-    note("root posts %s to partition %" PRIu64, names[payload[0]], bus->guest->id);
+    note_of(bus->guest, "root posts %s to partition %" PRIu64, names[payload[0]], bus->guest->id);
     post_waiting(bus);
 }
 
@@ -185,8 +217,8 @@ static uint32_t le32(const uint8_t *at) {
 
 /* ---- channels: two rings in pages of the guest, each with a page of indexes before its bytes ---- */
 
-/* A guest may write anything there. Its pages were looked at when it named them, and each
- * place is taken modulo the ring. */
+/* A guest may write anything there. Its pages were looked at when it named them, each place is taken modulo
+ * the ring, and what isn't a packet closes the channel. */
 static uint8_t *ring_at(struct bus *bus, const struct channel *c, uint32_t page, uint32_t at) {
     return bus->guest->ram + c->pfn[page + at / PAGE] * PAGE + at % PAGE;
 }
@@ -194,7 +226,8 @@ static uint32_t *index_at(struct bus *bus, const struct channel *c, uint32_t pag
     return (uint32_t *)ring_at(bus, c, page, at);
 }
 
-/* Puts a packet into the ring that the guest reads, and signals its channel's flag. */
+/* Puts a packet into the ring that the guest reads, and signals its channel's flag. A channel whose signal is
+ * refused is closed: its memory may belong to another kernel by now. */
 static void send(struct bus *bus, uint32_t id, const uint8_t *data, uint32_t len) {
     struct channel *c = &bus->channels[id];
     const uint32_t size = (c->pages - c->down - 1) * PAGE, padded = (len + 7) & ~7u, whole = 16 + padded + 8;
@@ -205,24 +238,33 @@ static void send(struct bus *bus, uint32_t id, const uint8_t *data, uint32_t len
     hvpm_put(packet + 16 + padded + 4, from, 4);
     for (uint32_t i = 0; i < whole; i++) *ring_at(bus, c, c->down, PAGE + (from + i) % size) = packet[i];
     __atomic_store_n(index_at(bus, c, c->down, 0), (from + whole) % size, __ATOMIC_SEQ_CST);
-    CALL(hvpm_signal_event, 0x100 * (uint32_t)(bus - buses) + SIGNAL_CHILD, (uint16_t)id);
+    core_leave(hvpm_signal_event(core_enter(), ROOT, 0x100 * (uint32_t)(bus - buses) + SIGNAL_CHILD,
+                                 (uint16_t)id, &reply, NULL, 0),
+               &reply);
+    if (!is_delivered(bus, "a signal")) c->open = c->agreed = false;
 }
 
-/* Takes the next packet of the ring that the guest writes. Answers its length, 0 where there is none. */
+/* Takes the next packet of the ring that the guest writes. Answers its length, 0 where there is none. A packet
+ * lies whole in what the guest wrote: otherwise the root would read on for good. */
 static uint32_t receive(struct bus *bus, uint32_t id, uint8_t data[PAGE]) {
     struct channel *c = &bus->channels[id];
     const uint32_t size = (c->down - 1) * PAGE,
                    to = __atomic_load_n(index_at(bus, c, 0, 0), __ATOMIC_SEQ_CST);
-    const uint32_t from = *index_at(bus, c, 0, 4);
+    const uint32_t from = *index_at(bus, c, 0, 4), held = (to + size - from) % size;
     uint8_t head[8];
     if (from == to) return 0;
     for (uint32_t i = 0; i < sizeof head; i++) head[i] = *ring_at(bus, c, 0, PAGE + (from + i) % size);
-    const uint32_t start = 8 * (le32(head) >> 16), end = 8 * (le32(head + 4) & 0xFFFF),
-                   len = end > start ? end - start : 0;
-    for (uint32_t i = 0; i < len && i < PAGE; i++)
-        data[i] = *ring_at(bus, c, 0, PAGE + (from + start + i) % size);
+    const uint32_t start = 8 * (le32(head) >> 16), end = 8 * (le32(head + 4) & 0xFFFF);
+    if (from >= size || to >= size || start < 16 || end <= start || end + 8 > held) {
+        note_of(bus->guest, "partition %" PRIu64 " writes no packet: channel %" PRIu32 " is closed",
+                bus->guest->id, id);
+        c->open = c->agreed = false;
+        return 0;
+    }
+    const uint32_t len = end - start < PAGE ? end - start : PAGE;
+    for (uint32_t i = 0; i < len; i++) data[i] = *ring_at(bus, c, 0, PAGE + (from + start + i) % size);
     __atomic_store_n(index_at(bus, c, 0, 4), (from + end + 8) % size, __ATOMIC_SEQ_CST);
-    return len < PAGE ? len : PAGE;
+    return len;
 }
 
 /* ---- the integration services: a pipe's header, that of an icmsg, and its body ---- */
@@ -255,24 +297,35 @@ static uint64_t count_events(void) {
     return events;
 }
 
-static void serve_channel(struct bus *bus, uint32_t id) {
+/* Answers whether the channel has no more packets. */
+static bool serve_channel(struct bus *bus, uint32_t id) {
     static uint8_t data[PAGE];
     const unsigned n = (unsigned)bus->guest->id;
-    for (uint32_t len; bus->channels[id].open && (len = receive(bus, id, data)) != 0;) {
+    for (unsigned left = TURN; left > 0; left--) {
+        if (!bus->channels[id].open || receive(bus, id, data) == 0) return true;
         const uint8_t type = data[12];
         if (type == NEGOTIATE) {
-            note("partition %u: channel %" PRIu32 " agrees on %u.%u", n, id, data[40], data[42]);
+            note_of(bus->guest, "partition %u: channel %" PRIu32 " agrees on %u.%u", n, id, data[40],
+                    data[42]);
             bus->channels[id].agreed = true;
             if (id == HEARTBEAT) bus->first_event = count_events(), bus->beats = 0, beat(bus);
         } else if (type == BEAT) {
             if (bus->beats <= 5 || bus->beats % 10000 == 0)
-                note("partition %u answers heartbeat %u", n, bus->beats);
+                note_of(bus->guest, "partition %u answers heartbeat %u", n, bus->beats);
             if (bus->beats < options.beats) beat(bus);
             else bus->last_event = count_events();
         } else
-            note("partition %u: channel %" PRIu32 " answers %u with status 0x%" PRIx32, n, id, type,
-                 le32(data + 20));
+            note_of(bus->guest, "partition %u: channel %" PRIu32 " answers %u with status 0x%" PRIx32, n, id,
+                    type, le32(data + 20));
     }
+    return false;
+}
+
+static void serve_channels(struct bus *bus) {
+    bus->signalled |= take_flags((unsigned)(bus - buses));
+    for (uint8_t id = 1; id < CHANNELS; id++)
+        if (bus->signalled >> id & 1 && serve_channel(bus, id)) bus->signalled &= (uint8_t)~(1u << id);
+    if (bus->signalled >> 1 != 0) sem_post(&raised); /* there may be more */
 }
 
 /* After its heartbeats a guest is asked to go, once it has lived as often as it must. */
@@ -313,15 +366,23 @@ static void answer(struct bus *bus, uint8_t type, uint32_t first, uint32_t secon
     post(bus, m, len);
 }
 
+/* The guest's driver is gone, or a new one begins. From here on the memory of its rings is the guest's own:
+ * after a kexec it belongs to the next kernel. */
+static void close_channels(struct bus *bus) {
+    memset(bus->channels, 0, sizeof bus->channels);
+    bus->signalled = 0;
+}
+
 static void serve_message(struct bus *bus, const uint8_t *m, uint32_t len) {
     const uint32_t type = le32(m), id = le32(m + 8), second = le32(m + 12);
     struct channel *c = channel_of(bus, id);
-    note("partition %" PRIu64 " posts %s", bus->guest->id, type < NAMES ? names[type] : "?");
+    note_of(bus->guest, "partition %" PRIu64 " posts %s", bus->guest->id, type < NAMES ? names[type] : "?");
     switch (type) {
     case CONTACT: {
         const bool is_known = id <= VERSION_5_2; /* 5.3 is refused, so that the guest comes again with 5.2 */
-        note("    version %" PRIu32 ".%" PRIu32 ": %s", id >> 16, id & 0xFFFF,
-             is_known ? "accepted" : "refused");
+        note_of(bus->guest, "    version %" PRIu32 ".%" PRIu32 ": %s", id >> 16, id & 0xFFFF,
+                is_known ? "accepted" : "refused");
+        close_channels(bus);
         bus->contacts += is_known;
         answer(bus, VERSION, is_known, id >= 0x50000 ? MESSAGES : MESSAGES_OLD, 0, 16);
         break;
@@ -337,7 +398,8 @@ static void serve_message(struct bus *bus, const uint8_t *m, uint32_t len) {
         answer(bus, GPADL_CREATED, id, second, c->pages == 0, 20);
         break;
     case OPEN:
-        c->down = le32(m + 24), c->open = c->down >= 2 && c->down + 2 <= c->pages;
+        c->down = le32(m + 24);
+        c->open = c->down >= 2 && c->down < c->pages && c->pages - c->down >= 2;
         answer(bus, OPEN_RESULT, id, second, !c->open, 20);
         if (c->open) negotiate(bus, id);
         break;
@@ -347,6 +409,8 @@ static void serve_message(struct bus *bus, const uint8_t *m, uint32_t len) {
         break;
     case CLOSE: c->open = c->agreed = false; break;
     case UNLOAD:
+        serve_channels(bus); /* what it sent before */
+        close_channels(bus); /* before it hears that its memory is its own */
         answer(bus, UNLOADED, 0, 0, 0, 8);
         bus->has_unloaded = bus->has_offers;
         if (options.unload && bus->has_unloaded) guest_ended(bus->guest, NULL);
@@ -357,8 +421,8 @@ static void serve_message(struct bus *bus, const uint8_t *m, uint32_t len) {
 void vmbus_reset(struct guest *guest) {
     struct bus *bus = &buses[guest - guests];
     pthread_mutex_lock(&bus_lock);
-    memset(bus->channels, 0, sizeof bus->channels);
-    bus->was_asked = false, bus->sent = bus->posted = 0, bus->beats = 0, bus->last_event = 0;
+    close_channels(bus);
+    bus->was_asked = bus->is_full = false, bus->sent = bus->posted = 0, bus->beats = 0, bus->last_event = 0;
     pthread_mutex_unlock(&bus_lock);
 }
 
@@ -366,21 +430,22 @@ void vmbus_reset(struct guest *guest) {
  * A second without one is a stall of the heartbeat. */
 static void *root_thread(void *unused) {
     uint8_t message[256];
-    for (;;) {
+    for (unsigned left;;) {
         struct timespec until;
         clock_gettime(CLOCK_REALTIME, &until);
         until.tv_sec += 1;
         const bool is_idle = sem_timedwait(&raised, &until) != 0 && errno == ETIMEDOUT;
         if (!is_idle) usleep(1000 * options.delay); /* so that a guest surely halts meanwhile */
         pthread_mutex_lock(&bus_lock);
-        while (take_message(message)) {
+        for (left = TURN; left > 0 && take_message(message); left--) {
             const uint32_t n = le32(message + 8) / 0x100; /* the port by which it came */
             if (n < MAX_GUESTS && buses[n].guest) serve_message(&buses[n], message + 16, message[4]);
         }
+        if (left == 0) sem_post(&raised); /* there may be more */
         for (struct bus *bus = buses; bus < buses + MAX_GUESTS; bus++) {
             if (!bus->guest) continue;
-            for (uint8_t flags = take_flags((unsigned)(bus - buses)), id = 1; id < CHANNELS; id++)
-                if (flags >> id & 1) serve_channel(bus, id);
+            serve_channels(bus);
+            if (is_idle) bus->is_full = false;
             post_waiting(bus);
             if (is_idle && bus->last_event == 0 && bus->beats > 0 && !bus->guest->ended)
                 note("stall %u of partition %" PRIu64 " at heartbeat %u", ++bus->stalls, bus->guest->id,
@@ -420,17 +485,24 @@ bool vmbus_is_done(void) {
     pthread_mutex_lock(&bus_lock); /* for good: the root does nothing more */
     for (struct bus *bus = buses; bus < buses + MAX_GUESTS; bus++) {
         if (!bus->guest) continue;
+        if (bus->guest->is_hostile) {
+            note("partition %" PRIu64 " attacked; %u messages and signals were not delivered to it",
+                 bus->guest->id, bus->losses);
+            continue;
+        }
         if (options.unload) {
             is_done &= has_let_go(bus);
             continue;
         }
         const uint64_t events = bus->last_event - bus->first_event, beats = bus->beats > 0 ? bus->beats : 1;
         note("partition %" PRIu64
-             ": version 5.2 in %u of %u lives, %u of %u heartbeats, %.2f events for each, %u stalls",
+             ": version 5.2 in %u of %u lives, %u of %u heartbeats, %.2f events for each, %u stalls, %u"
+             " losses",
              bus->guest->id, bus->contacts, lives, bus->beats, options.beats, (double)events / (double)beats,
-             bus->stalls);
+             bus->stalls, bus->losses);
         is_done &=
             bus->contacts == lives && bus->beats >= options.beats && bus->last_event != 0 && bus->stalls == 0;
+        is_done &= !options.hostile || bus->losses == 0;
         /* Where heartbeats are all that happens: a signal, its flag and its vector,
          * there and back, and little else. */
         if (options.children == 1 && beats >= 100) is_done &= events <= 8 * beats;
