@@ -9,7 +9,7 @@ use Rattle.hv_policy.proofs.Pairs.{first_alike}
 use Rattle.hv_policy.specs.Aim.{ResolvedPort, aim_by, aim_with, aims_at, has_target, on_aim, select_vp}
 use Rattle.hv_policy.specs.Flat.{ConnRow, Flat, PortRow, VpRow}
 use Rattle.hv_policy.specs.Met.{has_message_room, is_aimed_at_vp}
-use Rattle.hv_security.specs.Agreed.{AgreesOnPort, AgreesThrough}
+use Rattle.hv_security.specs.Agreed.{AgreesOnKept, AgreesOnPort, AgreesThrough}
 
 -- a test of where a connection leads, which fails where it leads nowhere
 abbrev test_aim : (ResolvedPort → Bool) → Option ResolvedPort → Bool
@@ -59,5 +59,13 @@ module _ (f g : Flat) where
         (λ conn port n is. ap is_some (taker_alike test conn.part port.vp (n.aimed port is)))
 
     -- and of how many messages are kept
-    pub on_room_alike : on_aim f key (has_message_room f) ≡ on_aim g key (has_message_room g)
-    on_room_alike = through (has_message_room f) (has_message_room g) (λ conn port n is. ap (λ kept. nat_lt kept MAX_MESSAGES) n.kept)
+    pub on_room_alike : AgreesOnKept (get f.conn key) f g → on_aim f key (has_message_room f) ≡ on_aim g key (has_message_room g)
+    on_room_alike k = room (get f.conn key) n k ∙ ap (λ c. test_aim (has_message_room g) (aim_by g c)) same
+      where
+        room : (c : Option ConnRow) → AgreesThrough c f g → AgreesOnKept c f g → test_aim (has_message_room f) (aim_by f c) ≡ test_aim (has_message_room g) (aim_by g c)
+        room None n k = refl
+        room (Some conn) n k = by (get f.port (conn.part, conn.port)) ∙ ap (λ p. test_aim (has_message_room g) (aim_with conn p)) n.port
+          where
+            by : (p : Option PortRow) → test_aim (has_message_room f) (aim_with conn p) ≡ test_aim (has_message_room g) (aim_with conn p)
+            by None = refl
+            by (Some port) = ap (λ kept. nat_lt kept MAX_MESSAGES) k

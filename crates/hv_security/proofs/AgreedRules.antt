@@ -43,11 +43,11 @@ module _ (caller : ℕ) (f g : Flat) (a : Agrees caller f g) where
   named (CreatePartition flags) n = depth_left_alike
   named (PostMessage connection message_type payload) n = λ i.
       first_unmet ((Connection, ap is_some (own_conn connection) i)
-      ∷ (Port, on_aim_alike f g (caller, connection) (own_conn connection) n is_same_birth i)
-      ∷ (VpExists, on_target_alike f g (caller, connection) (own_conn connection) n i)
-      ∷ (Operand, on_aim_alike f g (caller, connection) (own_conn connection) n is_for_messages i)
-      ∷ (VpReady, on_taker_alike f g (caller, connection) (own_conn connection) n is_ready_for_messages i)
-      ∷ (PortRoom, on_room_alike f g (caller, connection) (own_conn connection) n i) ∷ [])
+      ∷ (Port, on_aim_alike f g (caller, connection) (own_conn connection) n.0 is_same_birth i)
+      ∷ (VpExists, on_target_alike f g (caller, connection) (own_conn connection) n.0 i)
+      ∷ (Operand, on_aim_alike f g (caller, connection) (own_conn connection) n.0 is_for_messages i)
+      ∷ (VpReady, on_taker_alike f g (caller, connection) (own_conn connection) n.0 is_ready_for_messages i)
+      ∷ (PortRoom, on_room_alike f g (caller, connection) (own_conn connection) n.0 n.1 i) ∷ [])
   named (SignalEvent connection flag) n = λ i.
       first_unmet ((Connection, ap is_some (own_conn connection) i)
       ∷ (Port, on_aim_alike f g (caller, connection) (own_conn connection) n is_same_birth i)
@@ -55,12 +55,16 @@ module _ (caller : ℕ) (f g : Flat) (a : Agrees caller f g) where
       ∷ (Operand, on_aim_alike f g (caller, connection) (own_conn connection) n (has_flag flag) i)
       ∷ (VpReady, on_taker_alike f g (caller, connection) (own_conn connection) n is_ready_for_flags i) ∷ [])
   named (CreatePort partition port peer port_kind sint vp base count) n = there_alike caller f g a (resolved_id caller peer)
-  named (ConnectPort partition connection port_partition port port_kind) n = record {
-    part = there_alike caller f g a (resolved_id caller port_partition);
-    port = ap is_some n;
-    peer = ap (λ row. option_map_or (λ row. row.peer == resolved_id caller partition) row false) n;
-    kind = ap (λ row. option_map_or (λ row. is_kind row.kind port_kind) row false) n;
-  }
+  named (ConnectPort partition connection port_partition port port_kind) n = (
+    there_alike caller f g a (resolved_id caller port_partition),
+    (
+      ap is_some n,
+      λ there. (
+        ap (λ row. option_map_or (λ row. row.peer == resolved_id caller partition) row false) n,
+        λ peer. (ap (λ row. option_map_or (λ row. is_kind row.kind port_kind) row false) n, λ kind. tt),
+      ),
+    ),
+  )
   named call n = tt
 
   -- P11 to P24

@@ -15,7 +15,7 @@ use Rattle.hv_policy.specs.Flat.{Flat, MailRow}
 use Rattle.hv_policy.specs.Mail.{is_shown, mail_at, row_bytes}
 use Rattle.hv_policy.specs.Met.{has_privilege, is_active, is_kin, test_row}
 use Rattle.hv_policy.specs.Needs.{needs_of, target_of}
-use Rattle.hv_policy.specs.Rules.{Ask, caller_asks, first_unmet, frame_asks, further_asks, hypercall_asks, target_asks, unmet}
+use Rattle.hv_policy.specs.Rules.{Ask, IsAllowed, caller_asks, first_unmet, frame_asks, further_asks, hypercall_asks, target_asks, unmet}
 use Rattle.hv_policy.specs.Step.{step}
 use Rattle.hv_policy.specs.declared.event.Action.{Action}
 use Rattle.hv_policy.specs.declared.event.Action.TheVariants.{Hypercall}
@@ -118,9 +118,9 @@ module _ (members : ℕ → Bool) (f g : Flat) (a : AreLowEquivalent members f g
           ap (λ b. cond b (first_unmet (rest f)) (Some Privilege)) is
           ∙ sym (ap (λ b. cond b (first_unmet (rest g)) (Some Privilege)) (sym (privilege_alike call) ∙ is))
 
-  makes : (call : Call) → LooksAlike members call by.part f g → MakesAlike call f g
-  makes (CreatePartition flags) n = n.0
-  makes call n = tt
+  makes : (call : Call) → IsAllowed f by.part call → LooksAlike members call by.part f g → MakesAlike call f g
+  makes (CreatePartition flags) s n = n.1 s.further.0 s.further.1.0
+  makes call s n = tt
 
   module _ {A : Type 0} (frame : Frame A) where
     hypercalls_alike : (k : Option CallKind) → CallLooksAlike members (option_map (λ kind. parameters kind frame) k) by.part f g → first_unmet (hypercall_asks f by.part frame k) ≡ first_unmet
@@ -142,7 +142,7 @@ module _ (members : ℕ → Bool) (f g : Flat) (a : AreLowEquivalent members f g
         let look = looked (called frame) s.call s.called n s.granted.target.0 in
         ap (reply_with frame)
         (ap (output_of f by.part) s.called
-        ∙ output_alike by.part (target_of s.call by.part) f g (reads members f g a closed closed_too by.part own (target_of s.call by.part) t) s.call (makes s.call look)
+        ∙ output_alike by.part (target_of s.call by.part) f g (reads members f g a closed closed_too by.part own (target_of s.call by.part) t) s.call (makes s.call s.granted look)
         ∙ sym (ap (output_of g by.part) s.called))
 
   module _ {A : Type 0} where

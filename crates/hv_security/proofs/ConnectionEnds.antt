@@ -15,13 +15,29 @@ use Rattle.hv_policy.proofs.SameMail.{kept_among, kept_same}
 use Rattle.hv_policy.specs.Aim.{ResolvedPort, aim_by, aim_with, has_target, is_ready_for_flags, is_ready_for_messages, is_same_birth, on_aim, select_vp}
 use Rattle.hv_policy.specs.Flat.{ConnRow, Flat, MailRow, PortRow, VpRow}
 use Rattle.hv_policy.specs.Mail.{came_through, kept_of, mail_at, stands_at}
-use Rattle.hv_policy.specs.Met.{has_flag, has_message_room, is_aimed_at_vp, is_for_messages, is_kind}
+use Rattle.hv_policy.specs.Met.{has_flag, has_flag_taker, has_message_room, has_message_taker, is_aimed_at_vp, is_for_messages, is_kind}
 use Rattle.hv_policy.specs.Same.{IsSameMail}
 use Rattle.hv_defs.specs.declared.port_kind.PortKind.TheVariants.{Message, Event}
 use Rattle.hv_security.specs.Alike.{AreLowEquivalent, is_born, mark, marked, unborn}
-use Rattle.hv_security.specs.Looks.{EndsAlike}
+use Rattle.hv_security.specs.Looks.{PostEndsAlike, SignalEndsAlike}
 use Rattle.hv_security.proofs.BirthMarks.{filter_marked, unmarked}
 use Rattle.hv_security.proofs.Sends.{seen_alike, taker_same}
+
+-- two states agree on all that a post or a signal reads of the end of a connection
+pub record EndIsAlike (key : ℕ × ℕ) (f g : Flat) : Type 0 where
+  pub stands : on_aim f key is_same_birth ≡ on_aim g key is_same_birth
+  pub aimed : on_aim f key (is_aimed_at_vp f) ≡ on_aim g key (is_aimed_at_vp g)
+  pub for_messages : on_aim f key is_for_messages ≡ on_aim g key is_for_messages
+  pub flags : (flag : ℕ) → on_aim f key (has_flag flag) ≡ on_aim g key (has_flag flag)
+  pub message_taker : on_aim f key (has_message_taker f) ≡ on_aim g key (has_message_taker g)
+  pub flag_taker : on_aim f key (has_flag_taker f) ≡ on_aim g key (has_flag_taker g)
+  pub room : on_aim f key is_same_birth ≡ true → on_aim f key (has_message_room f) ≡ on_aim g key (has_message_room g)
+
+pub for_post : (key : ℕ × ℕ) (f g : Flat) → EndIsAlike key f g → PostEndsAlike key f g
+for_post key f g e = (e.stands, λ standing. (e.aimed, λ aimed. (e.for_messages, λ takes. (e.message_taker, λ ready. (e.room standing, λ room. tt)))))
+
+pub for_signal : (flag : ℕ) (key : ℕ × ℕ) (f g : Flat) → EndIsAlike key f g → SignalEndsAlike flag key f g
+for_signal flag key f g e = (e.stands, λ standing. (e.aimed, λ aimed. (e.flags flag, λ takes. (e.flag_taker, λ ready. tt))))
 
 -- a test of where a connection leads, which fails where it leads nowhere
 abbrev test_aim : (ResolvedPort → Bool) → Option ResolvedPort → Bool
@@ -137,7 +153,7 @@ module _ (members : ℕ → Bool) (f g : Flat) (a : AreLowEquivalent members f g
         ∙ sym (kept_marked g conn.part conn.port row_too q)
         ∙ ap (λ n. kept_of conn.part conn.port n g.mail) (eqb-true row_too.born other.born (sym (stand row row_too p q) ∙ standing))
 
-    pub ends_alike : EndsAlike key f g
+    pub ends_alike : EndIsAlike key f g
     ends_alike = record {
       stands = through is_same_birth is_same_birth stand;
       aimed = through (is_aimed_at_vp f) (is_aimed_at_vp g) (λ row row_too p q. target_same row.vp ∙ ap (λ (r : PortRow). has_target g conn.part r.vp) (ports row row_too p q));

@@ -94,7 +94,7 @@ module _ (members : ℕ → Bool) (f g : Flat) (a : AreLowEquivalent members f g
           leads_alike members f g (get f.conn (by.part, connection)) (get g.conn (by.part, connection)) conn other ((a by.part own).conns connection) is is_too
 
       own_does : (call : Call) → IsAllowed f by.part call → LooksAlike members call by.part f g → DoesAlike members call by.part f g
-      own_does (CreatePartition flags) s n = (n.0, ap mask_of (a by.part own).part)
+      own_does (CreatePartition flags) s n = (n.1 s.further.0 s.further.1.0, ap mask_of (a by.part own).part)
       own_does (PostMessage connection message_type payload) s n = leads connection
       own_does (SignalEvent connection flag) s n = leads connection
       own_does (SetPartitionProperty partition code value) s n = λ off. (let clash = sym off ∙ target_own (SetPartitionProperty partition code value) s in cc)

@@ -1,5 +1,5 @@
 -- Replies in two states in which what an event reads is alike.
-use Rattle.std.proofs.Common.{◌≡◌, ℕ, ◌==◌, ◌&&◌, ◌||◌, ◌++◌, not, nat_le, nat_lt, Bool, true, false, cond, List, [], ◌∷◌, Option, Some, None, is_ok, is_some, refl, sym, ap, ◌∙◌}
+use Rattle.std.proofs.Common.{◌≡◌, ℕ, ◌==◌, ◌&&◌, ◌||◌, ◌++◌, not, nat_le, nat_lt, Bool, true, false, cond, List, [], ◌∷◌, map, Option, Some, None, is_ok, is_some, refl, sym, ap, ◌∙◌}
 use Rattle.std.specs.FinMap.{contains_key, get}
 use Rattle.std.specs.Int.{w64, to_le_bytes}
 use Rattle.hv_abi.specs.Check.{call_of}
@@ -10,7 +10,6 @@ use Rattle.hv_calls.specs.declared.call.Call.TheVariants.{SignalEvent, CreatePor
 use Rattle.hv_defs.specs.Registers as register
 use Rattle.hv_defs.specs.declared.aim.Aim.{Aim}
 use Rattle.hv_defs.specs.declared.aim.Aim.TheVariants.{One, Any}
-use Rattle.hv_defs.specs.declared.port_kind.PortKind.{PortKind}
 use Rattle.hv_defs.specs.declared.registers.RegisterRow.{RegisterRow}
 use Rattle.hv_defs.specs.declared.sizes.TheConstants.{MAX_VPS}
 use Rattle.hv_policy.specs.Aim.{has_target}
@@ -35,6 +34,7 @@ use Rattle.hv_policy.specs.declared.reply.Reply.TheVariants.{Served}
 use Rattle.hv_policy.specs.declared.rule.Rule.{Rule}
 use Rattle.hv_policy.specs.declared.rule.Rule.TheVariants.{PropertyKnown, TargetState, NoChildren, Depth, PeerExists, Connection, Port, Entitlement, VpExists, PropertyRange, Operand, Pages, MsrKnown}
 use Rattle.hv_policy.specs.declared.rule.Rule.TheVariants.{MsrPrivilege, MsrWrite}
+use Rattle.hv_security.specs.Looks.{AnswerAlike, PortsAlike}
 
 -- a first unmet rule behind equal fronts is equal
 pub behind : (asks rest other : List Ask) → first_unmet rest ≡ first_unmet other → first_unmet (asks ++ rest) ≡ first_unmet (asks ++ other)
@@ -50,6 +50,23 @@ stops (ask ∷ asks) rest other unmet = by ask.1 refl (λ is. stops asks rest ot
         (first_unmet (asks ++ other)) (Some ask.0)
     by true is past = past is
     by false is past = refl
+
+-- rules with tests that two states answer alike, in order
+pub met_alike : (rules : List (Rule × (Bool × Bool))) → AnswerAlike (map (λ r. r.1) rules) → first_unmet (map (λ r. (r.0, r.1.0)) rules) ≡ first_unmet (map (λ r. (r.0, r.1.1)) rules)
+met_alike [] same = refl
+met_alike (r ∷ rules) same = by (met_alike rules) r.1.0 refl
+  where
+    here : List Ask
+    here = map (λ r. (r.0, r.1.0)) rules
+
+    there : List Ask
+    there = map (λ r. (r.0, r.1.1)) rules
+
+    by : (AnswerAlike (map (λ r. r.1) rules) → first_unmet here ≡ first_unmet there) → (b : Bool) → r.1.0 ≡ b → cond r.1.0 (first_unmet here) (Some r.0) ≡ cond r.1.1 (first_unmet there) (Some r.0)
+    by rest true is = ap (λ first. cond r.1.0 first (Some r.0)) (rest (same.1 is)) ∙ ap (λ b. cond b (first_unmet there) (Some r.0)) same.0
+    by rest false is =
+        ap (λ b. cond b (first_unmet here) (Some r.0)) is
+        ∙ sym (ap (λ b. cond b (first_unmet there) (Some r.0)) (sym same.0 ∙ is))
 
 -- what calls read of their caller and their target is alike
 pub record ReadsAlike (caller target : ℕ) (f g : Flat) : Type 0 where
@@ -67,13 +84,6 @@ pub record ReadsAlike (caller target : ℕ) (f g : Flat) : Type 0 where
   pub given : (property : Option Property) (value : ℕ) → may_give property value f caller ≡ may_give property value g caller
   pub accessed : (row : Option RegisterRow) → may_access f caller row ≡ may_access g caller row
 
--- what HvConnectPort asks of the port that it names is alike
-pub record PortAlike (key : ℕ × ℕ) (target : ℕ) (asked : PortKind) (f g : Flat) : Type 0 where
-  pub part : contains_key f.part key.0 ≡ contains_key g.part key.0
-  pub port : contains_key f.port key ≡ contains_key g.port key
-  pub peer : on_port f key (λ row. row.peer == target) ≡ on_port g key (λ row. row.peer == target)
-  pub kind : on_port f key (λ row. is_kind row.kind asked) ≡ on_port g key (λ row. is_kind row.kind asked)
-
 module _ (caller target : ℕ) (states : States) (charge : ℕ) (f g : Flat) where
   -- P11 to P24 of a call
   abbrev pub AskedAlike : Call → Type 0
@@ -88,7 +98,8 @@ module _ (caller target : ℕ) (states : States) (charge : ℕ) (f g : Flat) whe
   NamedAlike (CreatePort partition port peer port_kind sint vp base count) =
       contains_key f.part (resolved_id caller peer) ≡ contains_key g.part (resolved_id caller peer)
   NamedAlike (ConnectPort partition connection port_partition port port_kind) =
-      PortAlike (resolved_id caller port_partition, port) target port_kind f g
+      (contains_key f.part (resolved_id caller port_partition) ≡ contains_key g.part (resolved_id caller port_partition))
+      × PortsAlike (resolved_id caller port_partition, port) target port_kind f g
   NamedAlike call = Unit {0}
 
 -- HvCreatePartition makes the same id
@@ -143,9 +154,16 @@ module _ (caller target : ℕ) (f g : Flat) (r : ReadsAlike caller target f g) w
     asked_alike (SignalEvent connection flag) n = n
     asked_alike (CreatePort partition port peer port_kind sint vp base count) n = λ i.
         first_unmet ((TargetState, state i) ∷ (PeerExists, n i) ∷ (Port, not (r.ports port i)) ∷ (VpExists, aimed vp i) ∷ (Pages, enough i) ∷ [])
-    asked_alike (ConnectPort partition connection port_partition port port_kind) n = λ i.
-        first_unmet ((TargetState, state i) ∷ (PeerExists, n.part i) ∷ (Connection, not (r.conns connection i)) ∷ (Port, n.port i)
-        ∷ (Entitlement, n.peer i) ∷ (Operand, n.kind i) ∷ (Pages, enough i) ∷ [])
+    asked_alike (ConnectPort partition connection port_partition port port_kind) n =
+        let key : ℕ × ℕ = (resolved_id caller port_partition, port) in
+        met_alike ((TargetState, (is_in f target states, is_in g target states))
+        ∷ (PeerExists, (contains_key f.part (resolved_id caller port_partition), contains_key g.part (resolved_id caller port_partition)))
+        ∷ (Connection, (not (contains_key f.conn (target, connection)), not (contains_key g.conn (target, connection))))
+        ∷ (Port, (contains_key f.port key, contains_key g.port key))
+        ∷ (Entitlement, (on_port f key (λ row. row.peer == target), on_port g key (λ row. row.peer == target)))
+        ∷ (Operand, (on_port f key (λ row. is_kind row.kind port_kind), on_port g key (λ row. is_kind row.kind port_kind)))
+        ∷ (Pages, (has_available f target charge, has_available g target charge)) ∷ [])
+        (state, λ in_state. (n.0, λ exists. (ap not (r.conns connection), λ free. (n.1.0, λ there. ((n.1.1 there).0, λ peer. (((n.1.1 there).1 peer).0, λ kind. (enough, λ has. tt)))))))
     asked_alike call n = refl
 
   -- and what it outputs is alike

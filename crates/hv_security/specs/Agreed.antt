@@ -24,23 +24,29 @@ pub record Agrees (caller : ℕ) (f g : Flat) : Type 0 where
   pub parents : (id : ℕ) → lineage (get f.part id) ≡ lineage (get g.part id)
   pub relatives : (id : ℕ) → is_relative f caller id ≡ true → HasSame id f g
 
--- two states agree on a connection's port: on its row, on the processor at which it aims, or on all of its
--- partition's processors if it aims at any, and on the number of its messages that are kept
+-- two states agree on a connection's port: on its row, and on the processor at which it aims, or on all of its
+-- partition's processors if it aims at any
 pub record AgreesOnPort (conn : ConnRow) (f g : Flat) : Type 0 where
   pub port : get f.port (conn.part, conn.port) ≡ get g.port (conn.part, conn.port)
   pub aimed : (port : PortRow) → get f.port (conn.part, conn.port) ≡ Some port
       → (vp : ℕ) → aims_at port.vp vp ≡ true → get f.vp (conn.part, vp) ≡ get g.vp (conn.part, vp)
-  pub kept : kept_of conn.part conn.port conn.born f.mail ≡ kept_of conn.part conn.port conn.born g.mail
 
 abbrev pub AgreesThrough : Option ConnRow → Flat → Flat → Type 0
 AgreesThrough None f g = Unit {0}
 AgreesThrough (Some conn) f g = AgreesOnPort conn f g
 
+-- two states agree on the number of messages that came through a connection's port and are kept
+abbrev pub AgreesOnKept : Option ConnRow → Flat → Flat → Type 0
+AgreesOnKept None f g = Unit {0}
+AgreesOnKept (Some conn) f g =
+    kept_of conn.part conn.port conn.born f.mail ≡ kept_of conn.part conn.port conn.born g.mail
+
 -- two states agree on the port that a call names: for a post or a signal the end of the caller's connection,
--- for HvConnectPort the port to connect to. Every other call names only ports of its own target
+-- for a post also the number of its messages, for HvConnectPort the port to connect to. Every other call names
+-- only ports of its own target
 abbrev pub AgreesOnNamed : Call → ℕ → Flat → Flat → Type 0
 AgreesOnNamed (PostMessage connection message_type payload) caller f g =
-    AgreesThrough (get f.conn (caller, connection)) f g
+    AgreesThrough (get f.conn (caller, connection)) f g × AgreesOnKept (get f.conn (caller, connection)) f g
 AgreesOnNamed (SignalEvent connection flag) caller f g = AgreesThrough (get f.conn (caller, connection)) f g
 AgreesOnNamed (ConnectPort partition connection port_partition port port_kind) caller f g =
     get f.port (resolved_id caller port_partition, port) ≡ get g.port

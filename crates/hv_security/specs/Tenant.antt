@@ -1,5 +1,6 @@
 -- A tenant: one partition that cannot look up others.
 use Rattle.std.specs.Prelude.{◌≡◌, ℕ, ◌==◌, Bool, true, false, List, Option, None, Some}
+use Rattle.std.specs.FinMap.{get}
 use Rattle.hv_calls.specs.declared.call.Call.{Call}
 use Rattle.hv_calls.specs.declared.call.Call.TheVariants.{PostMessage, SignalEvent}
 use Rattle.hv_policy.specs.Call.{called}
@@ -8,7 +9,7 @@ use Rattle.hv_policy.specs.Met.{is_child, is_running}
 use Rattle.hv_policy.specs.declared.event.Action.{Action}
 use Rattle.hv_policy.specs.declared.event.Action.TheVariants.{Hypercall}
 use Rattle.hv_policy.specs.declared.event.Event.{Event}
-use Rattle.hv_security.specs.Looks.{LooksUpNothing, OutsideAlike}
+use Rattle.hv_security.specs.Looks.{IfOutside, LooksUpNothing, PostEndsAlike, SignalEndsAlike}
 use Rattle.hv_security.specs.Turns.{AreTurns, ComesAlike, Turn}
 
 -- a tenant is Active, has no children, and has none of the privileges that allow it to look up others
@@ -24,9 +25,10 @@ only id other = other == id
 -- two states agree on what a call sees of others. A post and a signal see the end of the connection that they
 -- name, and every other call sees nothing
 abbrev pub SeesAlike : (ℕ → Bool) → Call → ℕ → Flat → Flat → Type 0
-SeesAlike members (PostMessage connection message_type payload) caller f g = OutsideAlike members
-    (caller, connection) f g
-SeesAlike members (SignalEvent connection flag) caller f g = OutsideAlike members (caller, connection) f g
+SeesAlike members (PostMessage connection message_type payload) caller f g =
+    IfOutside members (get f.conn (caller, connection)) (PostEndsAlike (caller, connection) f g)
+SeesAlike members (SignalEvent connection flag) caller f g =
+    IfOutside members (get f.conn (caller, connection)) (SignalEndsAlike flag (caller, connection) f g)
 SeesAlike members call caller f g = Unit {0}
 
 abbrev pub CallSeesAlike : (ℕ → Bool) → Option Call → ℕ → Flat → Flat → Type 0

@@ -6,12 +6,12 @@ use Rattle.hv_calls.specs.declared.call.Call.TheVariants.{CreatePartition, PostM
 use Rattle.hv_calls.specs.declared.call.Call.TheVariants.{CreatePort, ConnectPort}
 use Rattle.hv_policy.specs.Call.{called}
 use Rattle.hv_policy.specs.Flat.{ConnRow, Flat}
-use Rattle.hv_policy.specs.Met.{is_depth_left}
 use Rattle.hv_policy.specs.Needs.{resolved_id, target_of}
 use Rattle.hv_policy.specs.declared.event.Action.{Action}
 use Rattle.hv_policy.specs.declared.event.Action.TheVariants.{Hypercall}
 use Rattle.hv_policy.specs.declared.event.Event.{Event}
 use Rattle.hv_security.specs.Alike.{AreClosed}
+use Rattle.hv_security.specs.Looks.{NextAlike}
 use Rattle.hv_security.specs.Turns.{AreTurns, ComesAlike, Turn}
 
 -- a connection, if there is one, leads to a member
@@ -20,10 +20,9 @@ LeadsWithin members conn = (row : ConnRow) → conn ≡ Some row → members row
 
 -- every partition that a call names is a member: its target, a port's peer, the partition of the port to
 -- connect to, and the partition at the end of a connection. HvCreatePartition names none, but both states
--- have the same next id and agree on whether its caller is too deep
+-- agree on whether its caller is too deep, and, if it is served, on the next id
 abbrev pub StaysWithin : (ℕ → Bool) → Call → ℕ → Flat → Flat → Type 0
-StaysWithin members (CreatePartition flags) caller f g = (f.next ≡ g.next) ×
-    (is_depth_left f caller ≡ is_depth_left g caller)
+StaysWithin members (CreatePartition flags) caller f g = NextAlike caller f g
 StaysWithin members (PostMessage connection message_type payload) caller f g = LeadsWithin members
     (get f.conn (caller, connection))
 StaysWithin members (SignalEvent connection flag) caller f g = LeadsWithin members

@@ -32,7 +32,8 @@ pub fn each_event_is_confined<A>()
 /// - what the caller and its children have;
 /// - for three calls, the port that they name;
 /// - for a post and a signal, also the processor at which that port aims, or all processors of its partition
-///   if it aims at any.
+///   if it aims at any;
+/// - for a post, also the number of that port's messages that are kept.
 #[tactic(auto, using(crate::proofs::Replies::same_reply))]
 pub fn each_reply_is_of_what_relatives_have<A>()
     ensures { (f g : Flat) (e : Event A) → LowEquivalent e f g → (step f e).1 ≡ (step g e).1 }
