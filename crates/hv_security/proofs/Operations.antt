@@ -51,13 +51,37 @@ served_rises (x ∷ operations) (suc n) (suc m) less =
     let second = sum_by-cons counts x (take m operations) in
     omega (arith, rest, first, second)
 
--- where fewer were served is earlier
-pub served_later : (operations : List Operation) (n m : ℕ) → served_to operations n < served_to operations m → n < m
-served_later operations n m fewer = by (nat_lt n m) refl
+-- a served entry counts as one
+served_at : (operations : List Operation) (n : ℕ) (d : Operation) → DidAt operations (suc n) d → was_served d ≡ true → served_to operations (suc n) ≡ served_to operations n + 1
+served_at [] zero d did served = let none = did.is in cc
+served_at [] (suc n) d did served = let none = did.is in cc
+served_at (x ∷ operations) zero d did served =
+    let same : x ≡ d = (let is = did.is in cc) in
+    let one : counts x ≡ 1 = ap (λ b. cond b 1 0) (ap was_served same ∙ served) in
+    let first = sum_by-cons counts x (take 0 operations) in
+    omega (arith, one, first)
+served_at (x ∷ operations) (suc n) d did served =
+    let rest = served_at operations n d (record { is = did.is }) served in
+    let first = sum_by-cons counts x (take (suc n) operations) in
+    let second = sum_by-cons counts x (take n operations) in
+    omega (arith, rest, first, second)
+
+-- so that one entry alone has the count that it leaves
+not_earlier : (operations : List Operation) (m n : ℕ) (d : Operation) → DidAt operations n d → was_served d ≡ true → served_to operations m ≡ served_to operations n → m < n → ⊥
+not_earlier operations m zero d did served same less = absurd (omega arith)
+not_earlier operations m (suc n) d did served same less =
+    let one = served_at operations n d did served in
+    let rises = served_rises operations m n (omega arith) in
+    absurd (omega (arith, one, rises, same))
+
+pub one_birth : (operations : List Operation) (m n : ℕ) (d other : Operation) → DidAt operations m d → DidAt operations n other → was_served d ≡ true → was_served other ≡ true
+    → served_to operations m ≡ served_to operations n → m ≡ n
+one_birth operations m n d other did did_too served served_too same = by (nat_lt m n) (nat_lt n m) refl refl
   where
-    by : (b : Bool) → nat_lt n m ≡ b → n < m
-    by true less = ltb-true n m less
-    by false more = (let rises = served_rises operations m n (ltb-false n m more) in absurd (omega (arith, rises, fewer)))
+    by : (a b : Bool) → nat_lt m n ≡ a → nat_lt n m ≡ b → m ≡ n
+    by true b less is = absurd (not_earlier operations m n other did_too served_too same (ltb-true m n less))
+    by false true is less = absurd (not_earlier operations n m d did served (sym same) (ltb-true n m less))
+    by false false is is_too = let first = ltb-false m n is in let second = ltb-false n m is_too in omega (arith, first, second)
 
 -- one more
 module _ (operations : List Operation) (e : Operation) where

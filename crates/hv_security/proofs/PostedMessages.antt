@@ -5,20 +5,19 @@ use Rattle.std.specs.FinMap.{get}
 use Rattle.std.specs.Option.{option_map_or}
 use Rattle.hv_calls.specs.declared.call.Call.{Call}
 use Rattle.hv_calls.specs.declared.call.Call.TheVariants.{FinalizePartition, DeleteVp, SetVpRegisters, PostMessage, SignalEvent}
-use Rattle.hv_defs.specs.declared.port_kind.PortKind.{PortKind}
 use Rattle.hv_defs.specs.declared.port_kind.PortKind.TheVariants as port_type
 use Rattle.hv_policy.specs.Aim.{ResolvedPort, aim_by, aim_of, aim_with, is_same_birth, message_taker, on_aim}
 use Rattle.hv_policy.specs.Effect.{post_at, post_to}
 use Rattle.hv_policy.specs.Flat.{ConnRow, Flat, MailRow, PortRow}
 use Rattle.hv_policy.specs.Mail.{Place}
-use Rattle.hv_policy.specs.Met.{has_message_taker, is_for_messages, is_kind}
+use Rattle.hv_policy.specs.Met.{has_message_taker, is_for_messages}
 use Rattle.hv_policy.specs.Needs.{resolved_id}
 use Rattle.hv_policy.specs.Rules.{IsAllowed}
 use Rattle.hv_security.specs.Operation.{Operation, DeletesVp, Finalizes, Posts}
 use Rattle.hv_security.specs.Justified.{AreOfPeers, WasMade, WasPosted, WerePosted}
 use Rattle.hv_security.proofs.Operations.{did_last, last, more, not_after}
 use Rattle.hv_security.proofs.UnchangedRows.{register_keeps, signal_mail}
-use Rattle.hv_security.proofs.MadePorts.{AreConnected, AreMade, after_call, left_by, other}
+use Rattle.hv_security.proofs.MadePorts.{AreConnected, AreMade, after_call, kind_is, left_by, other}
 use Rattle.hv_security.proofs.RowsOneEntryLater.{mail_left, mail_more, mail_shown, mail_still, way_of}
 
 -- a test of where a connection leads, which fails where it leads nowhere
@@ -56,12 +55,6 @@ reached f key born = by_conn (get f.conn key) refl born
 pub tested : (f : Flat) (key : ℕ × ℕ) (test : ResolvedPort → Bool) (r : Reaches f key) → on_aim f key test ≡ true → test (record { conn = r.conn; port = r.port }) ≡ true
 tested f key test r h = sym (ap (test_aim test) r.aim_is) ∙ h
 
-pub kind_is : (kind : PortKind) (asked : PortKind) → is_kind kind asked ≡ true → kind ≡ asked
-kind_is port_type.Message port_type.Message h = refl
-kind_is port_type.Message port_type.Event h = cc
-kind_is port_type.Event port_type.Message h = cc
-kind_is port_type.Event port_type.Event h = refl
-
 module _ (states : ℕ → Flat) (operations : List Operation) (f : Flat) (now : states (length operations + 1) ≡ f) (made : AreMade operations f.port) (connected : AreConnected operations f.conn)
     (peers : AreOfPeers f) (were : WerePosted states operations 0 f.mail) (caller : ℕ) where
   post_mail : (connection type : ℕ) (payload : List ℕ) → on_aim f (caller, connection) is_same_birth ≡ true → on_aim f (caller, connection) is_for_messages ≡ true → on_aim f (caller, connection)
@@ -98,12 +91,13 @@ module _ (states : ℕ → Flat) (operations : List Operation) (f : Flat) (now :
 
       posted : (vp : ℕ) → message_taker f aim ≡ Some vp → WasPosted states (more operations e) (new vp) (last operations e)
       posted vp is = record {
-        aim = r.port.vp;
-        base = was.base;
+        port = r.port;
         sender = caller;
         connection = connection;
-        way = way_of operations e key r.conn r.port was (connected key r.conn r.conn_is) r.conn.born r.same refl (peers key r.conn r.port r.conn_is r.port_is r.same) port_type.Message
-            (kind_is r.port.kind port_type.Message (tested f key is_for_messages r takes));
+        way = way_of operations e key r.conn r.port was (connected key r.conn r.conn_is) r.same (peers key r.conn r.port r.conn_is r.port_is r.same);
+        kind = kind_is r.port.kind port_type.Message (tested f key is_for_messages r takes);
+        aimed = refl;
+        born = r.same;
         taken = ap (λ g. message_taker g aim) now ∙ is;
         posted = did_last operations e (last operations e) refl;
         kept = not_after operations e (last operations e) (DeletesVp r.conn.part vp) refl;

@@ -99,11 +99,12 @@ known_refused states operations f k = record {
 births_past : (states : ℕ → Flat) (operations : List Operation) (f : Flat) → IsKnown states operations f → (key : ℕ × ℕ) (conn : ConnRow) → get f.conn key ≡ Some conn → conn.born ≤ f.served
 births_past states operations f k key conn is =
     let was = k.conns key conn is in
-    let rises = served_rises operations was.at (length operations) (did_within operations _ _ was.connected) in
+    let rises = served_rises operations was.stood.from (length operations) (did_within operations _ _ was.stood.making.made) in
     let whole = served_all operations (length operations) (omega arith) in
-    let after = was.after in
+    let birth = was.stood.making.birth in
+    let born = was.born in
     let same = k.served in
-    omega (arith, rises, whole, after, same)
+    omega (arith, rises, whole, birth, born, same)
 
 -- where the event of the next entry comes in this state
 module _ {A : Type 0} (states : ℕ → Flat) (operations : List Operation) (f : Flat) (now : states (length operations + 1) ≡ f) (k : IsKnown states operations f) where
@@ -113,7 +114,7 @@ module _ {A : Type 0} (states : ℕ → Flat) (operations : List Operation) (f :
       subst (λ call. IsTold states (more operations (called_deed call by.part)) (served_effect f by.part call)) (sym served.called)
       (record {
         ports = ports_call operations f by.part k.served k.ports served.call;
-        conns = conns_call operations f by.part k.served k.ports k.conns served.call;
+        conns = conns_call operations f by.part k.served k.ports k.conns served.call served.granted;
         peers = call_peers f k.peers (births_past states operations f k) by.part served.call served.granted;
         mail = mail_call states operations f now k.ports k.conns k.peers k.mail by.part served.call served.granted;
         flags = flags_call states operations f now k.ports k.conns k.peers k.flags by.part served.call served.granted;

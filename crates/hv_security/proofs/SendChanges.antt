@@ -89,8 +89,8 @@ unshown at mail row here next =
     none false b is = refl
 
 -- a message through a connection, at the processor that takes it
-message_confined : (aim : ResolvedPort) (vp type : ℕ) (payload : List ℕ) (f : Flat) (caller : ℕ) → IntegrityWithin (AndPlace (aimed_place aim vp) (OneMessage (aimed_message type payload aim vp))) caller f
-    (counted (post_at aim (Some vp) type payload f))
+message_confined : (aim : ResolvedPort) (vp type : ℕ) (payload : List ℕ) (f : Flat) (caller : ℕ) → IntegrityWithin (AndPlace (aimed_place aim vp) (OneMessage (aimed_message type payload aim vp)))
+    caller f (counted (post_at aim (Some vp) type payload f))
 message_confined aim vp type payload f caller = (λ id apart. others id, gains)
   where
     at : Place

@@ -1,5 +1,5 @@
 -- Flags that are set, once a call was served.
-use Rattle.std.proofs.Common.{◌≡◌, ℕ, ◌+◌, ◌==◌, ◌||◌, not, nat_lt, Bool, true, false, cond, length, List, Option, Some, None, is_some, refl, sym, ap, subst, ◌∙◌, option_map}
+use Rattle.std.proofs.Common.{◌≡◌, ℕ, ◌+◌, ◌==◌, ◌||◌, not, nat_lt, Bool, true, false, cond, length, List, Option, Some, None, is_some, refl, sym, ap, subst, ◌∙◌, ltb-true, option_map}
 use Rattle.std.proofs.lemmas.Bool.{and_parts, not-true}
 use Rattle.std.specs.FinMap.{FinMap, get, insert, remove, get-insert, get-remove}
 use Rattle.std.specs.FinSet as set
@@ -13,7 +13,7 @@ use Rattle.hv_policy.proofs.Pairs.{pair_cmp_total}
 use Rattle.hv_policy.proofs.Rows.{get-rows_but, get-with_vp}
 use Rattle.hv_policy.specs.Aim.{ResolvedPort, aim_of, flag_taker, is_same_birth, on_aim}
 use Rattle.hv_policy.specs.Boot.{start_vp}
-use Rattle.hv_policy.specs.Effect.{flags_of, row_signalled, rows_but, signal_at, signal_to, with_vp}
+use Rattle.hv_policy.specs.Effect.{row_signalled, rows_but, signal_at, signal_to, with_vp}
 use Rattle.hv_policy.specs.Flat.{Flat, VpRow}
 use Rattle.hv_policy.specs.Met.{is_kind}
 use Rattle.hv_policy.specs.Met as event
@@ -23,8 +23,8 @@ use Rattle.hv_security.specs.Operation.{Operation, ClearsFlag, DeletesVp, Finali
 use Rattle.hv_security.specs.Justified.{AreOfPeers, WasMade, WasSignalled, has_flag}
 use Rattle.hv_security.proofs.Operations.{did_last, last, more, not_after}
 use Rattle.hv_security.proofs.UnchangedRows.{post_flags, register_keeps, set_in, test_vp, tied}
-use Rattle.hv_security.proofs.PostedMessages.{Reaches, kind_is, reached, tested}
-use Rattle.hv_security.proofs.MadePorts.{AreConnected, AreMade, after_call, apart, left_by, other}
+use Rattle.hv_security.proofs.PostedMessages.{Reaches, reached, tested}
+use Rattle.hv_security.proofs.MadePorts.{AreConnected, AreMade, after_call, apart, kind_is, left_by, other}
 use Rattle.hv_security.proofs.RowsOneEntryLater.{signalled_still, way_of}
 
 -- each flag that is set, of processors, was signalled
@@ -137,23 +137,24 @@ module _ (states : ℕ → Flat) (operations : List Operation) (f : Flat) (now :
       was : WasMade operations (r.conn.part, r.conn.port) r.port
       was = made (r.conn.part, r.conn.port) r.port r.port_is
 
-      kind : r.port.kind ≡ port_type.Event
-      kind = kind_is r.port.kind port_type.Event (and_parts (is_kind r.port.kind port_type.Event) (nat_lt number r.port.count) (tested f key (event.has_flag number) r takes)).0
+      flagged : (is_kind r.port.kind port_type.Event ≡ true) × (nat_lt number r.port.count ≡ true)
+      flagged = and_parts (is_kind r.port.kind port_type.Event) (nat_lt number r.port.count) (tested f key (event.has_flag number) r takes)
 
       signalled : (vp : ℕ) → flag_taker f aim ≡ Some vp → WasSignalled states (more operations e) r.conn.part vp r.port.sint (r.port.base + number)
       signalled vp is = record {
         k = last operations e;
-        port = r.conn.port;
-        born = r.conn.born;
-        aim = r.port.vp;
-        base = was.base;
+        port_id = r.conn.port;
+        port = r.port;
         sender = caller;
         connection = connection;
         number = number;
-        way = way_of operations e key r.conn r.port was (connected key r.conn r.conn_is) r.conn.born r.same refl (peers key r.conn r.port r.conn_is r.port_is r.same) port_type.Event kind;
+        way = way_of operations e key r.conn r.port was (connected key r.conn r.conn_is) r.same (peers key r.conn r.port r.conn_is r.port_is r.same);
+        kind = kind_is r.port.kind port_type.Event flagged.0;
+        aimed = refl;
+        within = ltb-true number r.port.count flagged.1;
+        is = refl;
         taken = ap (λ g. flag_taker g aim) now ∙ is;
         signalled = did_last operations e (last operations e) refl;
-        is = ap (λ n. n + number) (subst (λ k. r.port.base ≡ flags_of k was.base) kind was.first);
         kept = not_after operations e (last operations e) (DeletesVp r.conn.part vp) refl;
         alive = not_after operations e (last operations e) (Finalizes r.conn.part) refl;
         set = not_after operations e (last operations e) (ClearsFlag r.conn.part vp r.port.sint (r.port.base + number)) refl;

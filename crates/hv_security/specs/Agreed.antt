@@ -24,8 +24,8 @@ pub record Agrees (caller : ℕ) (f g : Flat) : Type 0 where
   pub parents : (id : ℕ) → lineage (get f.part id) ≡ lineage (get g.part id)
   pub relatives : (id : ℕ) → is_relative f caller id ≡ true → HasSame id f g
 
--- two states agree on a connection's port: on its row, and on the processor at which it aims, or on all of its
--- partition's processors if it aims at any
+-- two states agree on a connection's port: on its row, and on the processor at which it aims, or on all of
+-- its partition's processors if it aims at any
 pub record AgreesOnPort (conn : ConnRow) (f g : Flat) : Type 0 where
   pub port : get f.port (conn.part, conn.port) ≡ get g.port (conn.part, conn.port)
   pub aimed : (port : PortRow) → get f.port (conn.part, conn.port) ≡ Some port
@@ -42,8 +42,8 @@ AgreesOnKept (Some conn) f g =
     kept_of conn.part conn.port conn.born f.mail ≡ kept_of conn.part conn.port conn.born g.mail
 
 -- two states agree on the port that a call names: for a post or a signal the end of the caller's connection,
--- for a post also the number of its messages, for HvConnectPort the port to connect to. Every other call names
--- only ports of its own target
+-- for a post also the number of its messages, for HvConnectPort the port to connect to. Every other call
+-- names only ports of its own target
 abbrev pub AgreesOnNamed : Call → ℕ → Flat → Flat → Type 0
 AgreesOnNamed (PostMessage connection message_type payload) caller f g =
     AgreesThrough (get f.conn (caller, connection)) f g × AgreesOnKept (get f.conn (caller, connection)) f g

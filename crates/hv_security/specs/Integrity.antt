@@ -63,8 +63,8 @@ abbrev pub takes_flag : ℕ → ResolvedPort → Bool
 takes_flag flag aim = is_same_birth aim && has_flag flag aim
 
 -- the reach of a call. A post sends its message through a connection of the caller, to the processor that
--- takes it in this state. A signal sends a flag, which counts from the port's first. A mask that is given to an
--- Active partition narrows its subtree
+-- takes it in this state. A signal sends a flag, which counts from the port's first. A mask that is given to
+-- an Active partition narrows its subtree
 abbrev pub reach_of_call : Flat → ℕ → Call → Reach
 reach_of_call f caller (PostMessage connection message_type payload) =
     reach_through takes_message (message_taker f)

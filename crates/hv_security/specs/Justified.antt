@@ -2,8 +2,6 @@
 use Rattle.std.specs.Prelude.{◌≡◌, ℕ, zero, suc, ◌+◌, ◌<◌, Bool, take, List, [], ◌∷◌, Some}
 use Rattle.std.specs.FinMap.{get}
 use Rattle.std.specs.FinSet as set
-use Rattle.hv_defs.specs.declared.aim.Aim.{Aim}
-use Rattle.hv_defs.specs.declared.port_kind.PortKind.{PortKind}
 use Rattle.hv_defs.specs.declared.port_kind.PortKind.TheVariants as port_type
 use Rattle.hv_policy.specs.Aim.{is_ready_for_flags, is_ready_for_messages, on_vp, select_vp}
 use Rattle.hv_policy.specs.Boot.{boot}
@@ -28,40 +26,56 @@ abbrev pub state_before : {A : Type 0} → Config → List (Event A) → ℕ →
 state_before config events zero = boot config
 state_before config events (suc before) = (run config (take before events)).0
 
--- an entry created the port with this key, (partition, id), and nothing has ended the port since. The count
--- of served events, that entry included, is the port's birth
+-- the entry of this number created the port with this key, (partition, id). The count of served events, that
+-- entry included, is the port's birth
+pub record IsMaking (operations : List Operation) (at : ℕ) (key : ℕ × ℕ) (port : PortRow) : Type 0 where
+  pub base : ℕ
+  pub count : ℕ
+  pub first : port.base ≡ flags_of port.kind base
+  pub number : port.count ≡ flags_of port.kind count
+  pub made : DidAt operations at
+      (MakesPort key.0 key.1 port.peer port.kind port.sint port.vp base count)
+  pub birth : served_to operations at ≡ port.born
+
+-- an entry created the port with this key, and nothing has ended the port since
 pub record WasMade (operations : List Operation) (key : ℕ × ℕ) (port : PortRow) : Type 0 where
   pub at : ℕ
-  pub base : ℕ
-  pub first : port.base ≡ flags_of port.kind base
-  pub made : DidAt operations at (MakesPort key.0 key.1 port.peer port.kind port.sint port.vp base)
-  pub birth : served_to operations at ≡ port.born
+  pub making : IsMaking operations at key port
   pub kept : HasNotSince operations at (DeletesPort key.0 key.1)
   pub alive : HasNotSince operations at (Finalizes key.0)
 
--- an entry created the connection with this key, (partition, id), after the birth that the connection keeps,
--- and nothing has ended it since
+-- the port with this key existed at the entry of number k: an earlier entry created it, and nothing ended it
+-- before entry k
+pub record StoodAt (operations : List Operation) (k : ℕ) (key : ℕ × ℕ) (port : PortRow) : Type 0 where
+  pub from : ℕ
+  pub making : IsMaking operations from key port
+  pub before : from < k
+  pub kept : HasNot operations from k (DeletesPort key.0 key.1)
+  pub alive : HasNot operations from k (Finalizes key.0)
+
+-- an entry created the connection with this key, (partition, id), and nothing has ended it since. Its port
+-- existed at that entry, for the connection's partition. The connection keeps the port's type and birth
 pub record WasConnected (operations : List Operation) (key : ℕ × ℕ) (conn : ConnRow) : Type 0 where
   pub at : ℕ
-  pub connected : DidAt operations at (Connects key.0 key.1 conn.part conn.port)
-  pub after : conn.born < served_to operations at
+  pub port : PortRow
+  pub stood : StoodAt operations at (conn.part, conn.port) port
+  pub peer : port.peer ≡ key.0
+  pub kind : port.kind ≡ conn.kind
+  pub born : port.born ≡ conn.born
+  pub connected : DidAt operations at (Connects key.0 key.1 conn.part conn.port conn.kind)
   pub kept : HasNotSince operations at (Disconnects key.0 key.1)
   pub alive : HasNotSince operations at (Finalizes key.0)
 
--- a port and a connection to it both existed until the entry of number k. An entry created the port for the
--- sender and gave it its birth, a later entry connected the sender to it, and nothing ended either before
--- entry k
-pub record HasWay (operations : List Operation) (k id port born : ℕ) (kind : PortKind) (sint : ℕ) (aim : Aim)
-    (base sender connection : ℕ) : Type 0 where
-  pub from : ℕ
-  pub made : DidAt operations from (MakesPort id port sender kind sint aim base)
-  pub birth : served_to operations from ≡ born
+-- a port and a connection to it both existed at the entry of number k. The port was created for the sender, a
+-- later entry connected the sender to it, and nothing ended either before entry k
+pub record HasWay (operations : List Operation) (k : ℕ) (key : ℕ × ℕ) (port : PortRow)
+    (sender connection : ℕ) : Type 0 where
+  pub stood : StoodAt operations k key port
+  pub peer : port.peer ≡ sender
   pub at : ℕ
-  pub connected : DidAt operations at (Connects sender connection id port)
-  pub after : from < at
+  pub connected : DidAt operations at (Connects sender connection key.0 key.1 port.kind)
+  pub after : stood.from < at
   pub before : at < k
-  pub port_kept : HasNot operations from k (DeletesPort id port)
-  pub port_alive : HasNot operations from k (Finalizes id)
   pub conn_kept : HasNot operations at k (Disconnects sender connection)
   pub conn_alive : HasNot operations at k (Finalizes sender)
 
@@ -70,13 +84,14 @@ pub record HasWay (operations : List Operation) (k id port born : ℕ) (kind : P
 -- that entry: the one at which the port aims, which was ready for messages, or for any the lowest that was
 -- ready. Neither this processor nor its partition has ended since
 pub record WasPosted (states : ℕ → Flat) (operations : List Operation) (row : MailRow) (k : ℕ) : Type 0 where
-  pub aim : Aim
-  pub base : ℕ
+  pub port : PortRow
   pub sender : ℕ
   pub connection : ℕ
-  pub way : HasWay operations k row.part row.port row.born port_type.Message row.sint aim base sender
-      connection
-  pub taken : select_vp is_ready_for_messages (states k) row.part aim ≡ Some row.vp
+  pub way : HasWay operations k (row.part, row.port) port sender connection
+  pub kind : port.kind ≡ port_type.Message
+  pub aimed : port.sint ≡ row.sint
+  pub born : port.born ≡ row.born
+  pub taken : select_vp is_ready_for_messages (states k) row.part port.vp ≡ Some row.vp
   pub posted : DidAt operations k (Posts sender connection row.type row.payload)
   pub kept : HasNotSince operations k (DeletesVp row.part row.vp)
   pub alive : HasNotSince operations k (Finalizes row.part)
@@ -88,23 +103,25 @@ WerePosted states operations before [] = Unit {0}
 WerePosted states operations before (row ∷ mail) =
     (k : ℕ) × (before < k) × WasPosted states operations row k × WerePosted states operations k mail
 
--- the entry of number k set a flag of a processor's SINT, through a connection of the sender to an event port
--- that aims at the SINT. The processor is the one that took it in the state before that entry: the one at
--- which the port aims, which was ready for event flags, or for any the lowest that was ready. Neither the
--- processor nor its partition has ended since, and the processor has not cleared the flag
+-- the entry of number k set a flag of a processor's SINT, one of the flags of an event port that aims at the
+-- SINT, through a connection of the sender to that port. The processor is the one that took it in the state
+-- before that entry: the one at which the port aims, which was ready for event flags, or for any the lowest
+-- that was ready. Neither the processor nor its partition has ended since, and the processor has not cleared
+-- the flag
 pub record WasSignalled (states : ℕ → Flat) (operations : List Operation) (id vp sint flag : ℕ) : Type 0 where
   pub k : ℕ
-  pub port : ℕ
-  pub born : ℕ
-  pub aim : Aim
-  pub base : ℕ
+  pub port_id : ℕ
+  pub port : PortRow
   pub sender : ℕ
   pub connection : ℕ
   pub number : ℕ
-  pub way : HasWay operations k id port born port_type.Event sint aim base sender connection
-  pub taken : select_vp is_ready_for_flags (states k) id aim ≡ Some vp
+  pub way : HasWay operations k (id, port_id) port sender connection
+  pub kind : port.kind ≡ port_type.Event
+  pub aimed : port.sint ≡ sint
+  pub within : number < port.count
+  pub is : flag ≡ port.base + number
+  pub taken : select_vp is_ready_for_flags (states k) id port.vp ≡ Some vp
   pub signalled : DidAt operations k (Signals sender connection number)
-  pub is : flag ≡ base + number
   pub kept : HasNotSince operations k (DeletesVp id vp)
   pub alive : HasNotSince operations k (Finalizes id)
   pub set : HasNotSince operations k (ClearsFlag id vp sint flag)

@@ -27,17 +27,17 @@ AnswerAlike (test ∷ tests) = (test.0 ≡ test.1) × (test.0 ≡ true → Answe
 abbrev pub at_end : ℕ × ℕ → (Flat → ResolvedPort → Bool) → Flat → Flat → Bool × Bool
 at_end key test f g = (on_aim f key (test f), on_aim g key (test g))
 
--- two states agree on what a post reads of the end of its connection, in order: whether the port has the birth
--- that the connection keeps, whether the processor at which it aims exists, whether it takes messages, whether
--- a processor takes one, and whether there is room for one more
+-- two states agree on what a post reads of the end of its connection, in order: whether the port has the
+-- birth that the connection keeps, whether the processor at which it aims exists, whether it takes messages,
+-- whether a processor takes one, and whether there is room for one more
 abbrev pub PostEndsAlike : ℕ × ℕ → Flat → Flat → Type 0
 PostEndsAlike key f g = AnswerAlike (
     at_end key (λ h. is_same_birth) f g ∷ at_end key is_aimed_at_vp f g
     ∷ at_end key (λ h. is_for_messages) f g ∷ at_end key has_message_taker f g
     ∷ at_end key has_message_room f g ∷ [])
 
--- and on what a signal reads: the same of the port's birth and processor, whether it has an event flag with the
--- number, and whether a processor takes one. A signal reads no message
+-- and on what a signal reads: the same of the port's birth and processor, whether it has an event flag with
+-- the number, and whether a processor takes one. A signal reads no message
 abbrev pub SignalEndsAlike : ℕ → ℕ × ℕ → Flat → Flat → Type 0
 SignalEndsAlike flag key f g = AnswerAlike (
     at_end key (λ h. is_same_birth) f g ∷ at_end key is_aimed_at_vp f g
@@ -51,9 +51,9 @@ IfOutside members conn P = (row : ConnRow) → conn ≡ Some row → members row
 abbrev pub IsThereAlike : (ℕ → Bool) → ℕ → Flat → Flat → Type 0
 IsThereAlike members id f g = members id ≡ false → contains_key f.part id ≡ contains_key g.part id
 
--- two states agree on what HvConnectPort reads of a port, in order: whether it exists, whether its peer is the
--- target, and whether it is of the type that the call names. Its SINT, processor, flags and birth may differ,
--- and so may a peer that is another partition than the target
+-- two states agree on what HvConnectPort reads of a port, in order: whether it exists, whether its peer is
+-- the target, and whether it is of the type that the call names. Its SINT, processor, flags and birth may
+-- differ, and so may a peer that is another partition than the target
 abbrev pub PortsAlike : ℕ × ℕ → ℕ → PortKind → Flat → Flat → Type 0
 PortsAlike key target port_kind f g = AnswerAlike (
     (contains_key f.port key, contains_key g.port key)
@@ -63,16 +63,17 @@ PortsAlike key target port_kind f g = AnswerAlike (
       on_port g key (λ row. is_kind row.kind port_kind),
     ) ∷ [])
 
--- two states agree on what HvCreatePartition looks at: whether its caller is too deep, and, if it is served, the
--- next id
+-- two states agree on what HvCreatePartition looks at: whether its caller is too deep, and, if it is served,
+-- the next id
 abbrev pub NextAlike : ℕ → Flat → Flat → Type 0
 NextAlike caller f g =
     (is_depth_left f caller ≡ is_depth_left g caller)
     × (is_depth_left f caller ≡ true → has_available f caller PARTITION_CHARGE ≡ true → f.next ≡ g.next)
 
 -- two states agree on what a call looks at outside the members. HvCreatePartition looks at what `NextAlike`
--- has. A post and a signal look at the end of a connection that leads outside. Every other call looks at whether the partitions that it names exist, and HvConnectPort also at what
--- `PortsAlike` has of the port that it names
+-- has. A post and a signal look at the end of a connection that leads outside. Every other call looks at
+-- whether the partitions that it names exist, and HvConnectPort also at what `PortsAlike` has of the port
+-- that it names
 abbrev pub LooksAlike : (ℕ → Bool) → Call → ℕ → Flat → Flat → Type 0
 LooksAlike members (CreatePartition flags) caller f g = NextAlike caller f g
 LooksAlike members (PostMessage connection message_type payload) caller f g =

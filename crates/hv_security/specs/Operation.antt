@@ -18,16 +18,16 @@ use Rattle.hv_policy.specs.declared.reply.Reply.{Reply}
 use Rattle.hv_policy.specs.declared.reply.Reply.TheVariants.{Served, More, Denied, Fault}
 
 -- What an entry did, with each partition by its id. HvCreatePort creates a port of a partition, for a peer,
--- with what it takes, its SINT, the processor at which it aims, or any, and the first of its flags;
--- HvDeletePort deletes it. HvConnectPort creates a connection of a partition to a port; HvDisconnectPort
--- deletes it. HvPostMessage posts a message through a connection of a partition; HvSignalEvent sets the flag
--- with a number through one. HvDeleteVp deletes a processor of a partition; HvFinalizePartition ends a
--- partition. A processor clears a flag of its own. A served event may do none of these, and a refused one
--- does nothing.
+-- with what it takes, its SINT, the processor at which it aims, or any, and the first and the number of its
+-- flags; HvDeletePort deletes it. HvConnectPort creates a connection of a partition to a port, which takes
+-- messages or flags; HvDisconnectPort deletes it. HvPostMessage posts a message through a connection of a
+-- partition; HvSignalEvent sets the flag with a number through one. HvDeleteVp deletes a processor of a
+-- partition; HvFinalizePartition ends a partition. A processor clears a flag of its own. A served event may
+-- do none of these, and a refused one does nothing.
 pub data Operation : Type 0 where
-  MakesPort : (id port peer : ℕ) (kind : PortKind) (sint : ℕ) (aim : Aim) (base : ℕ) → Operation
+  MakesPort : (id port peer : ℕ) (kind : PortKind) (sint : ℕ) (aim : Aim) (base count : ℕ) → Operation
   DeletesPort : (id port : ℕ) → Operation
-  Connects : (id connection port_id port : ℕ) → Operation
+  Connects : (id connection port_id port : ℕ) (kind : PortKind) → Operation
   Disconnects : (id connection : ℕ) → Operation
   Posts : (id connection type : ℕ) (payload : List ℕ) → Operation
   Signals : (id connection number : ℕ) → Operation
@@ -40,10 +40,10 @@ pub data Operation : Type 0 where
 -- the operation of a call by a processor of a partition
 abbrev pub call_operation : Call → ℕ → Operation
 call_operation (CreatePort partition port peer port_kind sint vp base count) caller =
-    MakesPort (resolved_id caller partition) port (resolved_id caller peer) port_kind sint vp base
+    MakesPort (resolved_id caller partition) port (resolved_id caller peer) port_kind sint vp base count
 call_operation (DeletePort partition port) caller = DeletesPort (resolved_id caller partition) port
 call_operation (ConnectPort partition connection port_partition port port_kind) caller =
-    Connects (resolved_id caller partition) connection (resolved_id caller port_partition) port
+    Connects (resolved_id caller partition) connection (resolved_id caller port_partition) port port_kind
 call_operation (DisconnectPort partition connection) caller = Disconnects (resolved_id caller partition)
     connection
 call_operation (PostMessage connection message_type payload) caller = Posts caller connection message_type

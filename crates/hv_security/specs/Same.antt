@@ -85,7 +85,8 @@ is_vector_of sint row vector =
     option_map_or (λ row. option_map_or (is_vector_in vector) (get row.registers (SINT0 + sint)) false) row
     false
 
--- Pending vectors stay pending. Another becomes pending only where the SINT may raise, and only the SINT's own.
+-- Pending vectors stay pending. Another becomes pending only where the SINT may raise, and only the SINT's
+-- own.
 pub record RaisesOwn (may_raise : Type 0) (sint : ℕ) (before after : Option VpRow) : Type 0 where
   pub stay : (vector : ℕ) → has_vector before vector ≡ true → has_vector after vector ≡ true
   pub may : (vector : ℕ) → has_vector before vector ≡ false → has_vector after vector ≡ true → may_raise

@@ -16,8 +16,8 @@ ghost use Rattle.hv_security.specs.Justified.{AreOfPeers, WasConnected, WasMade,
 ghost use Rattle.hv_security.specs.Justified.{is_flag_set, state_before};
 
 /// In every state of a run, an entry created each port and connection, and nothing has ended it since. At a
-/// port's entry, the count of served events is the port's birth. A connection's entry comes after the birth
-/// that the connection keeps.
+/// port's entry, the count of served events is the port's birth. At a connection's entry, the port to which
+/// it leads existed, for the connection's partition; the connection keeps that port's type and birth.
 pub fn every_port_and_connection_has_its_making<A>()
     ensures entries { (config : Config) (events : List (Event A))
         → length (operations_of events (run config events).1) ≡ length events }
@@ -52,10 +52,10 @@ pub fn every_message_was_posted<A>()
         (mail_at place (run config events).0.mail) }
 {}
 
-/// In every state of a run, each set event flag was signalled through a connection to an event port. The
-/// sender is the partition for which that port was created, and both the port and the connection existed
-/// then. The flag is at the processor that took the signal. That processor has existed since, and has not
-/// cleared the flag.
+/// In every state of a run, each set event flag was signalled through a connection to an event port, and is
+/// one of that port's flags. The sender is the partition for which that port was created, and both the port
+/// and the connection existed then. The flag is at the processor that took the signal. That processor has
+/// existed since, and has not cleared the flag.
 pub fn every_flag_was_signalled<A>()
     ensures flags { (config : Config) (events : List (Event A)) (id vp sint flag : ℕ)
         → is_flag_set (run config events).0 id vp sint flag ≡ true
