@@ -1,11 +1,12 @@
 #!/usr/bin/env bash
-# What `hvpm` takes for scripts of the largest size, 1,048,576 bytes, of six kinds: calls for the caller's own
-# id; rep calls of 255 elements; messages that are posted, read and cleared; partitions that are made and
-# deleted; partitions that get every second of 16,000 pages and are deleted with them; and lines of which each
-# names another processor, 64 in a phase. Beside time and memory it prints the instructions of an event, as
-# valgrind counts them, which are the same on every machine: those of the whole script less those of its first
-# line. Of the first five kinds peak memory should stay within that of one line and twenty times the script's
-# bytes, and no event should be refused. Of the last each is, since the processors aren't there.
+# What `hvpm` takes for scripts of the largest size, 1,048,576 bytes, of seven kinds: calls for the caller's
+# own id; rep calls of 255 elements; messages that are posted, read and cleared; partitions that are made and
+# deleted; partitions that get every second of 16,000 pages and are deleted with them; 1,000 ports at one SINT
+# that are filled with 8 messages each, all of which are then ended one by one; and lines of which each names
+# another processor, 64 in a phase. Beside time and memory it prints the instructions of an event, as valgrind
+# counts them, which are the same on every machine: those of the whole script less those of its first line. Of
+# the first six kinds peak memory should stay within that of one line and twenty times the script's bytes, and
+# no event should be refused. Of the last each is, since the processors aren't there.
 set -eu
 [[ ${1:-} != --help ]] || { sed -n '2,/^[^#]/s/^# \{0,1\}//p' -- "${BASH_SOURCE[0]}"; exit; }
 
@@ -34,12 +35,16 @@ make() {
 
         function call(rcx, rdx, block) { line("1.0 call " rcx " " rdx " 0 " block) }
 
-        # A port of the root for messages at SINT 2, a connection to it, and a processor that is ready.
-        function begin_messages() {
-            line("1.0 wrmsr 0x40000080 1"); line("1.0 wrmsr 0x40000083 1"); line("1.0 wrmsr 0x40000092 0x30")
-            call("0x95", 0, bytes(1, 8) bytes(5, 8) bytes(1, 8) bytes(1, 8) bytes(2, 4) bytes(0, 4) \
+        # A port of the root for messages at SINT 2, and a connection to it.
+        function port(id, connection) {
+            call("0x95", 0, bytes(1, 8) bytes(id, 8) bytes(1, 8) bytes(1, 8) bytes(2, 4) bytes(0, 4) \
                 bytes(0, 8))
-            call("0x96", 0, bytes(1, 8) bytes(7, 8) bytes(1, 8) bytes(5, 8) bytes(1, 4))
+            call("0x96", 0, bytes(1, 8) bytes(connection, 8) bytes(1, 8) bytes(id, 8) bytes(1, 4))
+        }
+
+        # A processor that is ready for messages at SINT 2.
+        function ready() {
+            line("1.0 wrmsr 0x40000080 1"); line("1.0 wrmsr 0x40000083 1"); line("1.0 wrmsr 0x40000092 0x30")
         }
 
         # Every second of 16,000 pages for a partition, 500 a call.
@@ -52,9 +57,11 @@ make() {
         }
 
         BEGIN {
-            sizes = kind == "scattered" ? "65536 1024" : "32 12"
+            sizes = kind == "scattered" ? "65536 1024" : kind == "queues" ? "4096 4000" : "32 12"
             line("boot " sizes " 1 0x000000f700000044 4294967295")
-            if (kind == "messages") begin_messages()
+            if (kind == "messages" || kind == "queues") ready()
+            if (kind == "messages") port(5, 7)
+            if (kind == "queues") for (i = 1; i <= 1000; i++) port(i, i)
             names = bytes(1, 8) bytes(0, 8)
             for (i = 0; i < 255; i++) names = names bytes(131072 + i % 18, 4)
             for (id = 2; !ended; id++) {
@@ -63,6 +70,12 @@ make() {
                 if (kind == "messages") {
                     call("0x5c", 0, bytes(7, 8) bytes(1, 4) bytes(16, 4) bytes(id, 16))
                     line("1.0 slot 2"); line("1.0 interrupt"); line("1.0 clearslot 2")
+                }
+                if (kind == "queues") {
+                    for (i = 0; i < 8000; i++) {
+                        call("0x5c", 0, bytes(i % 1000 + 1, 8) bytes(1, 4) bytes(4, 4) bytes(id, 4))
+                    }
+                    for (i = 0; i < 8000; i++) { line("1.0 clearslot 2"); line("1.0 wrmsr 0x40000084 0") }
                 }
                 if (kind == "partitions") {
                     call("0x40", 0, "-")
@@ -84,7 +97,7 @@ make() {
     head -n 1 -- "$folder/$1.hv" >"$folder/boot.hv"
 }
 
-for kind in id reps messages partitions scattered processors; do
+for kind in id reps messages partitions scattered queues processors; do
     make "$kind"
     echo "== $kind, $(stat -c %s "$folder/$kind.hv") bytes"
     measure "$program" "$folder/$kind.hv"

@@ -3,8 +3,8 @@
 # messages grow. Each script has the same work in 1,600 turns of 12 events: two posts; the slot is read, its
 # interrupt taken, the slot cleared; EOM shows the second message, whose interrupt is taken and which is
 # cleared; a signal; the flags are read, the interrupt taken and the flag cleared. The time of an event should
-# stay level but for two things: a look-up of a partition walks the tree, and a post counts its port's
-# messages among all that are kept at the port's processor. No event should be refused.
+# stay level but for one thing: a look-up of a partition walks the tree. No event should be refused. A script
+# has no room for more kept messages: bench/queues.c posts beside 32,000.
 set -eu
 [[ ${1:-} != --help ]] || { sed -n '2,/^[^#]/s/^# \{0,1\}//p' -- "${BASH_SOURCE[0]}"; exit; }
 

@@ -2,6 +2,7 @@ pub mod FlagBytes
 pub mod FlagMembers
 pub mod Members
 pub mod EmptySint
+pub mod Counts
 pub mod EmptyMailbox
 pub mod Queues
 pub mod EmptySints
@@ -10,5 +11,6 @@ pub mod PartitionRelation
 pub mod SlotBytes
 pub mod QueuedMessages
 pub mod Totals
+pub mod Trees
 pub mod WordBits
 pub mod WordBytes

@@ -3,4 +3,5 @@ pub mod Mail
 pub mod Message
 pub mod Queue
 pub mod Slot
+pub mod Tally
 pub mod Words

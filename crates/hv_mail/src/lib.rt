@@ -18,6 +18,8 @@ mod message;
 mod pending;
 mod sint_queue;
 mod slot;
+mod tally;
+mod tree;
 mod words;
 
 pub use flags::Flags;

@@ -1,17 +1,21 @@
-// The messages of one processor: a queue for each SINT, created with the room for the first message.
-ghost use Rattle.std.specs.Prelude.{◌≡◌, ◌<◌, ◌≤◌, ◌==◌, ◌&&◌, ◌^◌, ℕ, true, IfOk, IsOk, OnOk, length};
-ghost use Rattle.std.specs.Prelude.{nat_lt, option_map, sum_by};
+// The messages of one processor: a queue for each SINT, created with the room for the first message, and the
+// number of messages of each port.
+ghost use Rattle.std.specs.Prelude.{◌≡◌, ◌+◌, ◌<◌, ◌==◌, ◌&&◌, ℕ, true, IfOk, IfSome, IsOk, OnOk, is_some};
+ghost use Rattle.std.specs.Prelude.{length, nat_lt, option_map};
 ghost use Rattle.std.specs.Int.{bit_at};
 ghost use Rattle.std.specs.List.{list_all};
 ghost use Rattle.std.specs.FinMap as map;
 ghost use Rattle.hv_defs.specs.declared.sizes.TheConstants.{SINTS};
-ghost use Rattle.hv_mail.specs.Mail.{no_messages, with_next, has_next, with_last, posted, cleared, count_at};
-ghost use Rattle.hv_mail.specs.Mail.{all_next, count_of, at, with_at};
-ghost use Rattle.hv_mail.specs.Queue.{mail_from, AreQuiet};
+ghost use Rattle.hv_mail.specs.Mail.{no_messages, with_next, has_next, with_last, posted, cleared};
+ghost use Rattle.hv_mail.specs.Mail.{all_next, count_of, count_shown, at, with_at};
+ghost use Rattle.hv_mail.specs.Queue.{are_ready, mail_from};
 ghost use Rattle.hv_mail.specs.Slot.{slot_bytes};
+ghost use Rattle.hv_mail.specs.Tally.{has_room, kept_in};
 
 use crate::message::Message;
 use crate::sint_queue::SintQueue;
+use crate::tally::Tally;
+use arrayvec::ArrayVec;
 use hv_defs::SINTS;
 use std::alloc::{AllocError, Allocator};
 use std::marker::Model;
@@ -23,7 +27,11 @@ use std::marker::Model;
 #[derive(Drop)]
 pub struct Mailbox<A: Allocator> {
     queues: Vec<SintQueue<A>, A>,
-    // If set, each SINT is known to have room, and the queues need not be checked.
+    // The number of messages of each port in all queues.
+    tally: Tally<A>,
+    // Memory for the next message, wherever it goes.
+    spare: Option<Box<Message, A>>,
+    // If set, each queue is known to have room, and need not be checked.
     roomy: bool,
     // Bit n is 1 where SINT n may have a message. No other SINT has one.
     busy: u16,
@@ -37,9 +45,12 @@ impl<A: Allocator> Model for Mailbox<A> {
 
     ghost coded = { mailbox_code };
 
-    ghost view = { λ m. record { mail = mail_from 0 m.queues.items; room = is_roomy m.queues.items } };
+    ghost view = { λ m. record {
+      mail = mail_from 0 m.queues.items;
+      room = is_roomy m.queues.items m.spare m.tally.spare m.tally.kept;
+    } };
 
-    ghost invariant = { λ m. AreQueues m.queues.items m.roomy m.busy };
+    ghost invariant = { λ m. AreQueues m.queues.items m.tally.tree m.roomy m.busy };
 }
 
 impl<A: Allocator> Mailbox<A> {
@@ -49,6 +60,8 @@ impl<A: Allocator> Mailbox<A> {
     {
         Mailbox {
             queues: Vec::new(alloc),
+            tally: Tally::new(),
+            spare: None,
             roomy: false,
             busy: 0,
         }
@@ -58,13 +71,13 @@ impl<A: Allocator> Mailbox<A> {
     pub fn has_room(&self) -> bool
         ensures { result ≡ self.now.room }
     {
-        self.roomy || (!self.queues.is_empty() && are_roomy(&self.queues))
+        (self.roomy || are_ready(&self.queues)) && self.spare.is_some() && self.tally.has_room()
     }
 
     /// Makes room for one more message at each SINT. Existing room always suffices.
     ///
-    /// Returns `Err` if there is no memory for it, or if 2^59 messages wait at a SINT. No message is lost
-    /// then either.
+    /// Returns `Err` if there is no memory for it, or if there are 2^63 messages. No message is lost then
+    /// either.
     pub fn reserve_one(&mut self) -> Result<(), AllocError>
     where
         A: Clone,
@@ -73,7 +86,7 @@ impl<A: Allocator> Mailbox<A> {
         ensures mail { self.new.mail ≡ self.old.mail }
         ensures kept { self.old.room ≡ true → self.new.room ≡ true }
     {
-        if !self.has_room() {
+        if !self.roomy && !are_ready(&self.queues) {
             if self.queues.is_empty() {
                 self.queues = quiet_queues(self.queues.allocator().clone()?)?;
             } else {
@@ -81,7 +94,10 @@ impl<A: Allocator> Mailbox<A> {
             }
         }
         self.roomy = true;
-        Ok(())
+        if self.spare.is_none() {
+            self.spare = Some(blank(self.queues.allocator().clone()?)?);
+        }
+        self.tally.reserve_one(self.queues.allocator())
     }
 
     /// Adds a message behind all others at a SINT below 16. Returns `true` if a message became shown.
@@ -93,8 +109,13 @@ impl<A: Allocator> Mailbox<A> {
         ensures mail { self.new.mail ≡ with_at self.old.mail sint (posted (at self.old.mail sint) message) }
         ensures shown { result ≡ has_next (with_last (at self.old.mail sint) message) }
     {
+        let Some(mut held) = self.spare.take() else {
+            unreachable!()
+        };
+        self.tally.add(message.port, message.born);
+        *held = message;
         let queue = &mut self.queues[usize::from(sint)];
-        let shown = queue.post(message);
+        let shown = queue.post(held);
         self.roomy = queue.has_room();
         self.busy |= 1 << sint;
         shown
@@ -139,7 +160,7 @@ impl<A: Allocator> Mailbox<A> {
         let at = usize::from(sint);
         if at < self.queues.len() {
             let queue = &mut self.queues[at];
-            queue.clear();
+            forget(&mut self.tally, &mut self.spare, queue.clear());
             if !queue.is_pending() {
                 self.busy &= !(1 << sint);
             }
@@ -216,27 +237,52 @@ impl<A: Allocator> Mailbox<A> {
 
     /// The number of messages, shown or waiting, that came through this port of this birth.
     ///
-    /// The time is proportional to the number of all messages.
+    /// It takes at most 96 steps, however many messages there are.
     pub fn of_port(&self, port: u32, born: u64) -> usize
         ensures { result ≡ count_of port born self.now.mail }
     {
-        count_each(&self.queues, self.busy, port, born)
+        self.tally.count(port, born)
     }
 }
 
-// The number of messages of a port and birth in at most 16 queues. Only the busy queues are examined.
-fn count_each<A: Allocator>(queues: &[SintQueue<A>], busy: u16, port: u32, born: u64) -> usize
-    requires few { length queues.now ≤ SINTS }
-    requires quiet { AreQuiet busy (mail_from 0 queues.now) }
-    ensures { result ≡ sum_by (λ q. count_at port born q.mail) queues.now }
+// Uncounts a message that went, and keeps its memory for the next one.
+fn forget<A: Allocator>(
+    tally: &mut Tally<A>,
+    spare: &mut Option<Box<Message, A>>,
+    gone: Option<Box<Message, A>>,
+)
+    requires { IfSome gone (λ m. 0 < kept_in tally.old.tree m.value.port m.value.born) }
+    ensures counts { (p b : ℕ) → kept_in tally.old.tree p b ≡ kept_in tally.new.tree p b
+        + count_shown p b (option_map (λ m. m.value) gone) }
+    ensures room { has_room tally.old.spare tally.old.kept ≡ true
+        → has_room tally.new.spare tally.new.kept ≡ true }
+    ensures kept { is_some spare.old ≡ true → is_some spare.new ≡ true }
 {
-    let mut count = 0;
-    for (sint, queue) in queues.iter().enumerate() {
-        if busy >> sint & 1 != 0 {
-            count += queue.count_of(port, born);
-        }
+    if let Some(message) = gone {
+        tally.remove(message.port, message.born);
+        *spare = Some(message);
     }
-    count
+}
+
+// Memory for a message.
+fn blank<A: Allocator>(alloc: A) -> Result<Box<Message, A>, AllocError> {
+    let message = Message {
+        port: 0,
+        born: 0,
+        kind: 0,
+        payload: ArrayVec::new(),
+    };
+    match Box::new(alloc, message) {
+        Ok(held) => Ok(held),
+        Err(_) => Err(AllocError),
+    }
+}
+
+// Whether there are queues, each with room.
+fn are_ready<A: Allocator>(queues: &[SintQueue<A>]) -> bool
+    ensures { result ≡ are_ready queues.now }
+{
+    !queues.is_empty() && are_roomy(queues)
 }
 
 // Whether each queue has room.

@@ -1,7 +1,4 @@
 // A message.
-ghost use Rattle.std.specs.Prelude.{◌≡◌};
-ghost use Rattle.hv_mail.specs.Mail.{is_of};
-
 use arrayvec::ArrayVec;
 
 /// A message as it was posted (TLFS 4.0, "Messages"), with the port through which it came.
@@ -15,13 +12,4 @@ pub struct Message {
     pub kind: u32,
     /// The payload, of at most 240 bytes.
     pub payload: ArrayVec<u8, 240>,
-}
-
-impl Message {
-    // Whether it came through this port of this birth.
-    pub(crate) fn is_of(&self, port: u32, born: u64) -> bool
-        ensures { result ≡ is_of port born self.now }
-    {
-        self.port == port && self.born == born
-    }
 }

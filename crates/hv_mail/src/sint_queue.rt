@@ -1,6 +1,6 @@
 // The queue of one SINT: a ring of messages, the first of which may be shown.
-ghost use Rattle.std.specs.Prelude.{◌≡◌, ◌≤◌, ◌^◌, true, IfOk, OnOk, option_map};
-ghost use Rattle.hv_mail.specs.Mail.{no_mail, with_next, has_next, with_last, posted, cleared, count_at};
+ghost use Rattle.std.specs.Prelude.{◌≡◌, true, IfOk, OnOk, option_map};
+ghost use Rattle.hv_mail.specs.Mail.{no_mail, with_next, has_next, with_last, posted, cleared};
 ghost use Rattle.hv_mail.specs.Slot.{is_some_of, slot_bytes};
 
 use crate::message::Message;
@@ -9,44 +9,39 @@ use std::alloc::{AllocError, Allocator};
 use std::collections::VecDeque;
 use std::marker::Model;
 
-// Far more messages than any memory holds, so that the counts of sixteen queues add up.
-const MOST: usize = 1 << 59;
-
 #[derive(Drop)]
 pub(crate) struct SintQueue<A: Allocator> {
     // The oldest is first.
-    messages: VecDeque<Message, A>,
+    messages: VecDeque<Box<Message, A>, A>,
     // Whether there is a first message and it is shown. The others wait.
     is_shown: bool,
 }
 
 impl<A: Allocator> Model for SintQueue<A> {
-    ghost use Rattle.std.specs.Prelude.{◌≡◌, ◌≤◌, ◌^◌, ◌&&◌, nat_lt, true};
+    ghost use Rattle.std.specs.Prelude.{◌≡◌, ◌≤◌, nat_lt, true};
     ghost use Rattle.std.specs.VecDeque.{deque_capacity, deque_len};
-    ghost use Rattle.hv_mail.specs.Queue.{QueueState, queue_code, standing};
+    ghost use Rattle.hv_mail.specs.Queue.{QueueState, messages_of, queue_code, standing};
 
     ghost Value = { QueueState };
 
     ghost coded = { queue_code };
 
     ghost view = { λ q. record {
-      mail = standing q.is_shown q.messages.items;
-      room = nat_lt (deque_len q.messages) (deque_capacity q.messages)
-          && nat_lt (deque_len q.messages) (2 ^ 59);
+      mail = standing q.is_shown (messages_of q.messages.items);
+      room = nat_lt (deque_len q.messages) (deque_capacity q.messages);
     } };
 
-    ghost invariant = { λ q. (deque_len q.messages ≤ 2 ^ 59)
-        × (q.is_shown ≡ true → 1 ≤ deque_len q.messages) };
+    ghost invariant = { λ q. q.is_shown ≡ true → 1 ≤ deque_len q.messages };
 }
 
 impl<A: Allocator> SintQueue<A> {
-    // Creates an empty queue with room for one shown and one waiting message. Most SINTs never need more.
+    // Creates an empty queue with room for one message.
     pub(crate) fn new(alloc: A) -> Result<SintQueue<A>, AllocError>
         ensures mail { IfOk result (λ q. q.mail ≡ no_mail) }
         ensures room { IfOk result (λ q. q.room ≡ true) }
     {
         Ok(SintQueue {
-            messages: VecDeque::with_capacity(alloc, 2)?,
+            messages: VecDeque::with_capacity(alloc, 1)?,
             is_shown: false,
         })
     }
@@ -56,23 +51,20 @@ impl<A: Allocator> SintQueue<A> {
         ensures ok { OnOk result (self.new.room ≡ true) }
         ensures mail { self.new.mail ≡ self.old.mail }
     {
-        if self.messages.len() >= MOST {
-            return Err(AllocError);
-        }
         self.messages.reserve(1)
     }
 
     pub(crate) fn has_room(&self) -> bool
         ensures { result ≡ self.now.room }
     {
-        self.messages.len() < self.messages.capacity() && self.messages.len() < MOST
+        self.messages.len() < self.messages.capacity()
     }
 
     // Adds a message last, and then shows the next. Returns `true` if one became shown.
-    pub(crate) fn post(&mut self, message: Message) -> bool
+    pub(crate) fn post(&mut self, message: Box<Message, A>) -> bool
         requires { self.old.room ≡ true }
-        ensures mail { self.new.mail ≡ posted self.old.mail message }
-        ensures shown { result ≡ has_next (with_last self.old.mail message) }
+        ensures mail { self.new.mail ≡ posted self.old.mail message.value }
+        ensures shown { result ≡ has_next (with_last self.old.mail message.value) }
     {
         self.messages.push_back_reserved(message);
         self.advance()
@@ -91,15 +83,17 @@ impl<A: Allocator> SintQueue<A> {
         due
     }
 
-    // Removes the shown message.
-    pub(crate) fn clear(&mut self)
+    // Removes the shown message, and returns it.
+    pub(crate) fn clear(&mut self) -> Option<Box<Message, A>>
+        ensures removed { option_map (λ message. message.value) result ≡ self.old.mail.slot }
         ensures mail { self.new.mail ≡ cleared self.old.mail }
         ensures kept { self.old.room ≡ true → self.new.room ≡ true }
     {
-        if self.is_shown {
-            self.is_shown = false;
-            drop(self.messages.pop_front());
+        if !self.is_shown {
+            return None;
         }
+        self.is_shown = false;
+        self.messages.pop_front()
     }
 
     // The id of the port of the shown message.
@@ -124,14 +118,6 @@ impl<A: Allocator> SintQueue<A> {
         ensures { result ≡ is_some_of self.now.mail.waiting }
     {
         self.messages.len() > usize::from(self.is_shown)
-    }
-
-    // The number of messages of a port and birth in this queue.
-    pub(crate) fn count_of(&self, port: u32, born: u64) -> usize
-        ensures count { result ≡ count_at port born self.now.mail }
-        ensures small { result ≤ 2 ^ 59 }
-    {
-        self.messages.iter().filter(|m| m.is_of(port, born)).count()
     }
 
     // The bytes of the slot.

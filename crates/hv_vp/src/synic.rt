@@ -21,8 +21,8 @@ use std::alloc::{AllocError, Allocator};
 impl<A: Allocator> Vp<A> {
     /// Reserves room for one message, which the next `post` uses up.
     ///
-    /// If room is reserved already, nothing changes. Returns `Err` if there is no memory for it, or if 2^59
-    /// messages wait at a SINT. Nothing has changed then.
+    /// If room is reserved already, nothing changes. Returns `Err` if there is no memory for it, or if there
+    /// are 2^63 messages. Nothing has changed then.
     pub fn reserve_message(&mut self) -> Result<(), AllocError>
     where
         A: Clone,
@@ -159,7 +159,7 @@ impl<A: Allocator> Vp<A> {
 
     /// The number of its messages, shown or waiting, that came through this port of this birth.
     ///
-    /// The time is proportional to the number of all its messages.
+    /// It takes at most 96 steps, however many messages there are.
     pub fn of_port(&self, port: u32, born: u64) -> usize
         ensures { result ≡ count_of port born self.now.mail }
     {

@@ -77,14 +77,14 @@ fn assert_blocks(
 const GROWTHS: [(Growth, u64); 28] = [
     (Growth::Pages, 1),
     (Growth::Run, 0),
-    // The list of queues grows to 16, and each queue gets its room.
-    (Growth::Mail, 19),
-    // Only the ring that is full grows.
-    (Growth::ThirdMessage, 1),
+    // The list of queues grows to 16, and each queue gets its room. Then come a message and a count.
+    (Growth::Mail, 21),
+    // A message, and only the ring that is full grows.
+    (Growth::ThirdMessage, 2),
     (Growth::Ports, 1),
     (Growth::Connections, 1),
     (Growth::Processor, 1),
-    (Growth::Message, 19),
+    (Growth::Message, 21),
     (Growth::Partition, 1),
     (Growth::Room(Room::Processors), 1),
     (Growth::Room(Room::Pages(PageKind::Loose)), 1),

@@ -332,7 +332,7 @@ partition 1 parent - Active mask 000000f700000044 loose 14 pooled 12 inuse 7 vps
 partition 2 parent 1 Active mask 0000003000000044 loose 0 pooled 6 inuse 5 vps 1 ports 1 connections 0
 pages 32
 ",
-    blocks: &[10, 3, 1, 0, 2, 0, 0, 0, 4, 1, 1, 0, 0, 0, 0, 19, 2, 1, 0],
+    blocks: &[10, 3, 1, 0, 2, 0, 0, 0, 4, 1, 1, 0, 0, 0, 0, 21, 2, 1, 0],
     wants: &[0, 2, 8, 9, 10, 15],
 };
 
