@@ -1,13 +1,12 @@
 -- A post and a signal take nothing away where they go.
-use Rattle.std.proofs.Common.{◌≡◌, ℕ, ◌+◌, ◌==◌, ◌&&◌, ◌||◌, not, Bool, true, false, cond, List, [], ◌∷◌, ◌++◌, Option, Some, None, inl, refl, sym, ap, subst, ◌∙◌, option_map, nat_cmp}
+use Rattle.std.proofs.Common.{◌≡◌, ℕ, ◌+◌, ◌==◌, ◌&&◌, ◌||◌, not, Bool, true, false, cond, Option, Some, None, inl, refl, sym, ap, subst, ◌∙◌, option_map, nat_cmp}
 use Rattle.std.proofs.lemmas.Bool.{and_from, or_right}
 use Rattle.std.specs.Cmp.{eq_by_cmp_equiv, nat_cmp_total, unsigned_tied}
 use Rattle.std.specs.FinMap.{FinMap, get}
 use Rattle.std.specs.FinSet as set
 use Rattle.std.specs.Option.{option_map_or}
-use Rattle.std.specs.Ordering.{eq_by_cmp}
 use Rattle.hv_defs.specs.Bits.{bits}
-use Rattle.hv_defs.specs.Flags.{FlagSet, pair_cmp}
+use Rattle.hv_defs.specs.Flags.{FlagSet}
 use Rattle.hv_defs.specs.Vectors.{VectorSet, raised, with_vector}
 use Rattle.hv_defs.specs.declared.registers.TheConstants.{SINT0}
 use Rattle.hv_policy.proofs.Pairs.{pair_cmp_total, tied_pairs}
@@ -15,7 +14,7 @@ use Rattle.hv_policy.proofs.Rows.{get-with_vp}
 use Rattle.hv_policy.specs.Effect.{row_raised, row_signalled, with_vp}
 use Rattle.hv_policy.specs.Flat.{Flat, VpRow}
 use Rattle.hv_policy.specs.Mail.{Place}
-use Rattle.hv_security.specs.Same.{Gain, OneFlag, OneMessage, OnlyGains, RaisesOwn, has_flag, has_vector, is_vector_in, is_vector_of}
+use Rattle.hv_security.specs.Same.{Gain, OneFlag, OneMessage, OnlyGains, RaisesOwn, has_flag, is_vector_in}
 
 -- where nothing changes
 no_vector : (may_raise : Type 0) (sint : ℕ) (row : Option VpRow) → RaisesOwn may_raise sint row row
