@@ -1,6 +1,6 @@
 -- A node that is found below a child is found below the child's parent, and so is a content that is written there.
-use Rattle.std.proofs.Common.{◌≡◌, ℕ, ◌<◌, ◌∙◌, true, false, Bool, cond, refl, sym, ap, Option, None, List, ◌∷◌, Box, length, get_or, take, set, [], Some, is_some, MutBor, IfSome, IfNone, option_map, Bor, option_copied}
-use Rattle.std.proofs.Common.{eq-eqb}
+use Rattle.std.proofs.Common.{◌≡◌, ℕ, ◌<◌, ◌∙◌, true, false, Bool, cond, refl, sym, ap, Option, None, List, ◌∷◌, Box, length, get_or, take, set, [], Some, is_some, MutBor, IfSome, IfNone, option_map}
+use Rattle.std.proofs.Common.{Bor, eq-eqb, option_copied}
 use Rattle.std.specs.Box.{with_value}
 use Rattle.std.specs.Option.{option_copied_mut}
 use Rattle.hv_tree.specs.Nest.{Line, AreDistinct, HasTop, IsFound, IsNest, first_content, has_row, look, put_at, top}

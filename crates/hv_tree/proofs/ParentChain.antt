@@ -1,5 +1,6 @@
 -- The ids above an id, and those on the way down to it, one step at a time.
-use Rattle.std.proofs.Common.{◌≡◌, ℕ, zero, suc, ◌+◌, ◌-◌, ◌<◌, Option, None, Some, List, [], ◌∷◌, ◌++◌, length, drop, slice_set, refl, sym, ap, ◌∙◌, arith, append_assoc, unwrap_or}
+use Rattle.std.proofs.Common.{◌≡◌, ℕ, zero, suc, ◌+◌, ◌-◌, ◌<◌, Option, None, Some, [], ◌∷◌, ◌++◌, refl, sym, ap, ◌∙◌, arith, append_assoc, unwrap_or}
+use Rattle.std.proofs.Common.{List, drop, length, slice_set}
 use Rattle.std.proofs.lemmas.Grind.{drop-set_at}
 use Rattle.hv_tree.specs.Way.{above, line, depth, depth_from}
 

@@ -10,5 +10,7 @@ branch-branch-requires g t c = c.requires [] (node_of c.args.branch.now) refl
 pub go_along-requires : goal.go_along-requires
 go_along-requires g t c κs within =
     let n = node_of c.args.branch.now in
-    let rising = rising-child c.args.branch.now c.requires [] n (place_by c.in-Some.next.now (children_of n)) c.in_ok-child.child.now refl (sym c.in_ok-child.ensures) in
+    let rising =
+    rising-child c.args.branch.now c.requires [] n (place_by c.in-Some.next.now (children_of n)) c.in_ok-child.child.now refl (sym c.in_ok-child.ensures)
+    in
     (omega (arith, c.decreases, c.in-Some.ensures.cases.1), (within.0, (within.1, rising)))

@@ -19,7 +19,9 @@ returns-in-Some-clause-found g c =
     let r = reached up b c.requires id c.in_ok-path.ensures.found in
     let ids = c.in-Some.ids.now in
     let same : places ids b ≡ way_to up id b =
-    path-way up b c.requires id c.in_ok-path.path.steps ids c.in_ok-path.ensures.steps (c.in-Some.ensures.ids ∙ c.in_ok-path.ensures.ids c.in-Some.ensures.few) in
+    path-way up b c.requires id c.in_ok-path.path.steps ids c.in_ok-path.ensures.steps
+    (c.in-Some.ensures.ids ∙ c.in_ok-path.ensures.ids c.in-Some.ensures.few)
+    in
     let led : option_copied c.go_along.result ≡ Some r.0 = c.go_along.ensures ∙ ap (λ is. reach is b) same ∙ r.1.led in
     some_copied (λ n. IsReached up id b n) c.go_along.result (subst (λ o. IfSome o (λ n. IsReached up id b n)) (sym led) r.1)
 
@@ -31,6 +33,8 @@ returns-in-Some-clause-none g c =
     let r = reached up b c.requires id c.in_ok-path.ensures.found in
     let ids = c.in-Some.ids.now in
     let same : places ids b ≡ way_to up id b =
-    path-way up b c.requires id c.in_ok-path.path.steps ids c.in_ok-path.ensures.steps (c.in-Some.ensures.ids ∙ c.in_ok-path.ensures.ids c.in-Some.ensures.few) in
+    path-way up b c.requires id c.in_ok-path.path.steps ids c.in_ok-path.ensures.steps
+    (c.in-Some.ensures.ids ∙ c.in_ok-path.ensures.ids c.in-Some.ensures.few)
+    in
     let led : option_copied c.go_along.result ≡ Some r.0 = c.go_along.ensures ∙ ap (λ is. reach is b) same ∙ r.1.led in
     none_copied (has_row id (lines b) ≡ false) c.go_along.result (ap is_some led)

@@ -18,7 +18,9 @@ pub toward-requires-clause-rising : goal.toward-requires-clause-rising
 toward-requires-clause-rising g c = laid-rising (parents c.args.index.now) c.args.root.now c.requires
 
 pub toward-requires-clause-few : goal.toward-requires-clause-few
-toward-requires-clause-few g c = omega (arith, c.in_ok-path.ensures.steps, few-steps (parents c.args.index.now) c.args.root.now c.requires c.args.id c.in_ok-path.ensures.found)
+toward-requires-clause-few g c =
+    let few = few-steps (parents c.args.index.now) c.args.root.now c.requires c.args.id c.in_ok-path.ensures.found in
+    omega (arith, c.in_ok-path.ensures.steps, few)
 
 pub returns-in-Some : goal.returns-in-Some
 returns-in-Some g c =
@@ -28,7 +30,9 @@ returns-in-Some g c =
     let r = reached up b c.requires id c.in_ok-path.ensures.found in
     let ids = c.in-Some.ids.now in
     let same : places ids b ≡ way_to up id b =
-    path-way up b c.requires id c.in_ok-path.path.steps ids c.in_ok-path.ensures.steps (c.in-Some.ensures.ids ∙ c.in_ok-path.ensures.ids c.in-Some.ensures.few) in
+    path-way up b c.requires id c.in_ok-path.path.steps ids c.in_ok-path.ensures.steps
+    (c.in-Some.ensures.ids ∙ c.in_ok-path.ensures.ids c.in-Some.ensures.few)
+    in
     let led : option_copied_mut c.along.result ≡ Some r.0 = c.along.ensures.value ∙ ap (λ is. reach is b) same ∙ r.1.led in (
       ap (λ is. read_of (ghost_name_of c.along.result) (put_far is b) b) same,
       record {

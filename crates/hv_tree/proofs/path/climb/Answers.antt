@@ -55,9 +55,9 @@ loop-step-preserved g c =
     let kept : (length c.if-step-lt-NEAR.ids ≡ NEAR) × (step + 1 ≤ NEAR → drop (NEAR - (step + 1)) c.if-step-lt-NEAR.ids ≡ line up (step + 1) id) =
     elim c.if-step-lt-NEAR.branch [
       | then-step-lt-NEAR w ↦ (
-          ap length w.ids-is ∙ length-set ids (NEAR - 1 - step) at ∙ inv.3,
-          λ few. ap (drop (NEAR - (step + 1))) w.ids-is ∙ kept-more up step id at ids inv.3 (omega arith) inv.4 (inv.5 (omega arith)),
-        )
+        ap length w.ids-is ∙ length-set ids (NEAR - 1 - step) _ ∙ inv.3,
+        λ few. ap (drop (NEAR - (step + 1))) w.ids-is ∙ kept-more up step id at ids inv.3 (omega arith) inv.4 (inv.5 (omega arith)),
+      )
       | else-step-lt-NEAR w ↦ (ap length w.ids-is ∙ inv.3, λ few. absurd (omega (arith, few, w.if-step-lt-NEAR.false)))
     ]
     in (
