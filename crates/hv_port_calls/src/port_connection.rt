@@ -1,8 +1,7 @@
 // HvConnectPort.
-ghost use Rattle.std.specs.Prelude.{◌≡◌, IfErr, IfOk, None, Some, []};
-ghost use Rattle.std.specs.Result.{result_map_both};
+ghost use Rattle.std.specs.Prelude.{◌≡◌, IfOk, []};
+ghost use Rattle.std.specs.Result.{result_err, result_map_both};
 ghost use Rattle.hv_calls.specs.declared.call.Call.TheVariants as call;
-ghost use Rattle.hv_partition.specs.Partition.{PartitionState};
 ghost use Rattle.hv_policy.specs.Flat.{Flat};
 ghost use Rattle.hv_refine.specs.Asked.{AreFound};
 ghost use Rattle.hv_refine.specs.Done.{IsCalled, IsDone};
@@ -14,10 +13,9 @@ use crate::rules::has_conn;
 use hv_calls::Call;
 use hv_defs::PortKind;
 use hv_effect::Effect;
-use hv_partition::Partition;
-use hv_policy::{Caller, Need, Rule};
+use hv_policy::{Caller, Rule};
 use hv_ports::Conn;
-use hv_refine::{CallError, Partitions, admit, balance_of, resolve_partition_id};
+use hv_refine::{CallError, Found, Partitions, admit, balance_of, resolve_partition_id};
 use std::alloc::{AllocError, Allocator};
 
 // The parameters of a new connection, as HvConnectPort has them.
@@ -55,24 +53,15 @@ pub fn connect_port<A: Allocator>(
         port,
         kind,
     };
-    let (need, _, target, children) = match admit(tree, by, &call) {
-        Ok(found) => found,
-        Err(rule) => return Err(CallError::Unmet(rule)),
-    };
+    let found = admit(tree, by, &call)?;
     let new = NewConnection {
         connection,
         port_partition,
         port,
         kind,
     };
-    let born = match ask_connect(tree, by.part, need, target, children, partition, new) {
-        Ok(born) => born,
-        Err(rule) => return Err(CallError::Unmet(rule)),
-    };
-    match do_connect(tree, by.part, partition, new, born) {
-        Ok(effect) => Ok(effect),
-        Err(AllocError) => Err(CallError::Memory),
-    }
+    let born = ask_connect(tree, by.part, found, partition, new)?;
+    Ok(do_connect(tree, by.part, partition, new, born)?)
 }
 
 // Checks P12, P15, P16, P17, P18, P21 and P24, and returns the port's birth. The error is the first of these
@@ -80,20 +69,23 @@ pub fn connect_port<A: Allocator>(
 fn ask_connect<A: Allocator>(
     tree: &Partitions<A>,
     by: u64,
-    need: Need,
-    target: &Partition<A>,
-    children: u32,
+    found: Found<'_, A>,
     partition: u64,
     new: NewConnection,
 ) -> Result<u64, Rule>
-    ensures born { IfOk result (λ born. (f : Flat) (caller : PartitionState)
-        → AreFound tree.now by (connect_with partition new) need caller target.now children
-        → Refines tree.now f → (unmet_further f by (connect_with partition new) ≡ None)
-        × (born ≡ port_birth f by new)) }
-    ensures unmet { IfErr result (λ rule. (f : Flat) (caller : PartitionState)
-        → AreFound tree.now by (connect_with partition new) need caller target.now children
-        → Refines tree.now f → unmet_further f by (connect_with partition new) ≡ Some rule) }
+    ensures born { IfOk result (λ born. (f : Flat) → AreFound tree.now by (connect_with partition new)
+        found.entry.need found.entry.caller.now found.entry.target.now found.entry.children
+        → Refines tree.now f → born ≡ port_birth f by new) }
+    ensures unmet { (f : Flat) → AreFound tree.now by (connect_with partition new) found.entry.need
+        found.entry.caller.now found.entry.target.now found.entry.children
+        → Refines tree.now f → result_err result ≡ unmet_further f by (connect_with partition new) }
 {
+    let Found {
+        need,
+        target,
+        children,
+        ..
+    } = found;
     if !need.states.allow(target.life()) {
         return Err(Rule::TargetState);
     }

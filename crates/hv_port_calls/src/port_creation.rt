@@ -1,9 +1,8 @@
 // HvCreatePort.
 ghost use Rattle.std.specs.Prelude.{◌≡◌, ◌<◌, ℕ, []};
-ghost use Rattle.std.specs.Result.{result_map_both};
+ghost use Rattle.std.specs.Result.{result_err, result_map_both};
 ghost use Rattle.hv_calls.specs.declared.call.Call.TheVariants as call;
 ghost use Rattle.hv_defs.specs.declared.sizes.TheConstants.{MAX_SERVED};
-ghost use Rattle.hv_partition.specs.Partition.{PartitionState};
 ghost use Rattle.hv_policy.specs.Effect.{flags_of as flags_kept};
 ghost use Rattle.hv_policy.specs.Flat.{Flat};
 ghost use Rattle.hv_refine.specs.Asked.{AreFound, IsGranted};
@@ -16,10 +15,11 @@ use crate::rules::has_port;
 use hv_calls::Call;
 use hv_defs::{Aim, PortKind};
 use hv_effect::Effect;
-use hv_partition::Partition;
-use hv_policy::{Caller, Need, Rule};
+use hv_policy::{Caller, Rule};
 use hv_ports::Port;
-use hv_refine::{CallError, Partitions, admit, balance_of, has_target, resolve_partition_id};
+use hv_refine::{
+    CallError, Found, Partitions, admit, balance_of, has_target, resolve_partition_id,
+};
 use std::alloc::{AllocError, Allocator};
 
 /// The parameters of a new port, as HvCreatePort has them.
@@ -66,48 +66,45 @@ pub fn create_port<A: Allocator>(
         base: new.base,
         count: new.count,
     };
-    let (need, _, target, children) = match admit(tree, by, &call) {
-        Ok(found) => found,
-        Err(rule) => return Err(CallError::Unmet(rule)),
-    };
-    if let Some(rule) = ask_create(tree, by.part, need, target, children, new) {
-        return Err(CallError::Unmet(rule));
-    }
-    match do_create(tree, by.part, served, partition, new) {
-        Ok(effect) => Ok(effect),
-        Err(AllocError) => Err(CallError::Memory),
-    }
+    let found = admit(tree, by, &call)?;
+    ask_create(tree, by.part, found, new)?;
+    Ok(do_create(tree, by.part, served, partition, new)?)
 }
 
-// Checks P12, P15, P17, P19 and P24, and returns the first of them that fails.
+// Checks P12, P15, P17, P19 and P24. The error is the first of them that fails.
 fn ask_create<A: Allocator>(
     tree: &Partitions<A>,
     by: u64,
-    need: Need,
-    target: &Partition<A>,
-    children: u32,
+    found: Found<'_, A>,
     new: NewPort,
-) -> Option<Rule>
-    ensures { (f : Flat) (partition : ℕ) (caller : PartitionState)
-        → AreFound tree.now by (create_with partition new) need caller target.now children
-        → Refines tree.now f → result ≡ unmet_further f by (create_with partition new) }
+) -> Result<(), Rule>
+    ensures { (f : Flat) (partition : ℕ)
+        → AreFound tree.now by (create_with partition new) found.entry.need found.entry.caller.now
+        found.entry.target.now found.entry.children
+        → Refines tree.now f → result_err result ≡ unmet_further f by (create_with partition new) }
 {
+    let Found {
+        need,
+        target,
+        children,
+        ..
+    } = found;
     if !need.states.allow(target.life()) {
-        return Some(Rule::TargetState);
+        return Err(Rule::TargetState);
     }
     if !tree.contains(resolve_partition_id(by, new.peer)) {
-        return Some(Rule::PeerExists);
+        return Err(Rule::PeerExists);
     }
     if has_port(target, new.port) {
-        return Some(Rule::Port);
+        return Err(Rule::Port);
     }
     if !has_target(target, new.vp) {
-        return Some(Rule::VpExists);
+        return Err(Rule::VpExists);
     }
     if balance_of(target, children).available < need.charge {
-        return Some(Rule::Pages);
+        return Err(Rule::Pages);
     }
-    None
+    Ok(())
 }
 
 // Adds the port to the target.

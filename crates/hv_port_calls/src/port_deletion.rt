@@ -1,6 +1,6 @@
 // HvDeletePort.
 ghost use Rattle.std.specs.Prelude.{◌≡◌, ℕ, []};
-ghost use Rattle.std.specs.Result.{result_map_both};
+ghost use Rattle.std.specs.Result.{result_err, result_map_both};
 ghost use Rattle.hv_calls.specs.declared.call.Call.TheVariants as call;
 ghost use Rattle.hv_partition.specs.Partition.{PartitionState};
 ghost use Rattle.hv_policy.specs.Flat.{Flat};
@@ -13,9 +13,8 @@ ghost use Rattle.hv_tree.specs.Rows.{Rows};
 use crate::rules::has_port;
 use hv_calls::Call;
 use hv_effect::Effect;
-use hv_partition::Partition;
-use hv_policy::{Caller, Need, Rule};
-use hv_refine::{CallError, Partitions, admit, resolve_partition_id};
+use hv_policy::{Caller, Rule};
+use hv_refine::{CallError, Found, Partitions, admit, resolve_partition_id};
 use std::alloc::Allocator;
 
 /// HvDeletePort: removes the target's port with this id. Connections to it stay.
@@ -30,29 +29,25 @@ pub fn delete_port<A: Allocator>(
         (result_map_both (λ effect. ([], effect)) (λ why. why) result) tree.new }
 {
     let call = Call::DeletePort { partition, port };
-    let (need, _, target, _) = match admit(tree, by, &call) {
-        Ok(found) => found,
-        Err(rule) => return Err(CallError::Unmet(rule)),
-    };
-    if let Some(rule) = ask_delete(need, target, port) {
-        return Err(CallError::Unmet(rule));
-    }
+    let found = admit(tree, by, &call)?;
+    ask_delete(found, port)?;
     Ok(do_delete(tree, by.part, partition, port))
 }
 
-// Checks P12 and P17, and returns the first of them that fails.
-fn ask_delete<A: Allocator>(need: Need, target: &Partition<A>, port: u32) -> Option<Rule>
-    ensures { (tree : Rows PartitionState) (f : Flat) (by partition children : ℕ) (caller : PartitionState)
-        → AreFound tree by (call.DeletePort partition port) need caller target.now children → Refines tree f
-        → result ≡ unmet_further f by (call.DeletePort partition port) }
+// Checks P12 and P17. The error is the first of them that fails.
+fn ask_delete<A: Allocator>(found: Found<'_, A>, port: u32) -> Result<(), Rule>
+    ensures { (tree : Rows PartitionState) (f : Flat) (by partition : ℕ)
+        → AreFound tree by (call.DeletePort partition port) found.entry.need found.entry.caller.now
+        found.entry.target.now found.entry.children → Refines tree f
+        → result_err result ≡ unmet_further f by (call.DeletePort partition port) }
 {
-    if !need.states.allow(target.life()) {
-        return Some(Rule::TargetState);
+    if !found.need.states.allow(found.target.life()) {
+        return Err(Rule::TargetState);
     }
-    if !has_port(target, port) {
-        return Some(Rule::Port);
+    if !has_port(found.target, port) {
+        return Err(Rule::Port);
     }
-    None
+    Ok(())
 }
 
 // Removes the target's port.

@@ -1,6 +1,6 @@
 // HvDisconnectPort.
 ghost use Rattle.std.specs.Prelude.{◌≡◌, ℕ, []};
-ghost use Rattle.std.specs.Result.{result_map_both};
+ghost use Rattle.std.specs.Result.{result_err, result_map_both};
 ghost use Rattle.hv_calls.specs.declared.call.Call.TheVariants as call;
 ghost use Rattle.hv_partition.specs.Partition.{PartitionState};
 ghost use Rattle.hv_policy.specs.Flat.{Flat};
@@ -13,9 +13,8 @@ ghost use Rattle.hv_tree.specs.Rows.{Rows};
 use crate::rules::has_conn;
 use hv_calls::Call;
 use hv_effect::Effect;
-use hv_partition::Partition;
-use hv_policy::{Caller, Need, Rule};
-use hv_refine::{CallError, Partitions, admit, resolve_partition_id};
+use hv_policy::{Caller, Rule};
+use hv_refine::{CallError, Found, Partitions, admit, resolve_partition_id};
 use std::alloc::Allocator;
 
 /// HvDisconnectPort: removes the target's connection with this id.
@@ -34,29 +33,25 @@ pub fn disconnect_port<A: Allocator>(
         partition,
         connection,
     };
-    let (need, _, target, _) = match admit(tree, by, &call) {
-        Ok(found) => found,
-        Err(rule) => return Err(CallError::Unmet(rule)),
-    };
-    if let Some(rule) = ask_disconnect(need, target, connection) {
-        return Err(CallError::Unmet(rule));
-    }
+    let found = admit(tree, by, &call)?;
+    ask_disconnect(found, connection)?;
     Ok(do_disconnect(tree, by.part, partition, connection))
 }
 
-// Checks P12 and P16, and returns the first of them that fails.
-fn ask_disconnect<A: Allocator>(need: Need, target: &Partition<A>, connection: u32) -> Option<Rule>
-    ensures { (tree : Rows PartitionState) (f : Flat) (by partition children : ℕ) (caller : PartitionState)
-        → AreFound tree by (call.DisconnectPort partition connection) need caller target.now children
-        → Refines tree f → result ≡ unmet_further f by (call.DisconnectPort partition connection) }
+// Checks P12 and P16. The error is the first of them that fails.
+fn ask_disconnect<A: Allocator>(found: Found<'_, A>, connection: u32) -> Result<(), Rule>
+    ensures { (tree : Rows PartitionState) (f : Flat) (by partition : ℕ)
+        → AreFound tree by (call.DisconnectPort partition connection) found.entry.need found.entry.caller.now
+        found.entry.target.now found.entry.children → Refines tree f
+        → result_err result ≡ unmet_further f by (call.DisconnectPort partition connection) }
 {
-    if !need.states.allow(target.life()) {
-        return Some(Rule::TargetState);
+    if !found.need.states.allow(found.target.life()) {
+        return Err(Rule::TargetState);
     }
-    if !has_conn(target, connection) {
-        return Some(Rule::Connection);
+    if !has_conn(found.target, connection) {
+        return Err(Rule::Connection);
     }
-    None
+    Ok(())
 }
 
 // Removes the target's connection.

@@ -1,24 +1,20 @@
-use Rattle.std.proofs.Common.{refl, sym, ◌∙◌}
+use Rattle.std.proofs.Common.{◌∙◌, rules}
+use Rattle.std.proofs.lemmas.Result.{err_from_is_err_and}
 use Rattle.hv_port_calls.proofs.port_creation.create_port.Goals as goal
-
-pub returns-in-Some : goal.returns-in-Some
-returns-in-Some g c f flat born = (c.in-Ok.ensures.further f flat ∙ sym (c.ask_create.ensures f c.args.partition _ c.in-Ok.ensures.found flat) ∙ c.in-Some.is, refl)
 
 pub do_create-requires-clause-granted : goal.do_create-requires-clause-granted
 do_create-requires-clause-granted g c =
     let t = c.requires.rows in
-    c.in-Ok.ensures.grants t (sym (c.ask_create.ensures t.flat c.args.partition _ c.in-Ok.ensures.found t.tied) ∙ c.in_default.is)
+    let asked = c.ask_create.ensures t.flat c.args.partition c.in_ok-found.ensures.found t.tied in
+    c.in_ok-found.ensures.grants t (search rules)
 
-pub returns-in-Ok-do_create : goal.returns-in-Ok-do_create
-returns-in-Ok-do_create g c f flat born = (
-  c.in-Ok.ensures.further f flat ∙ sym (c.ask_create.ensures f c.args.partition _ c.in-Ok.ensures.found flat)
-      ∙ c.in_default.is,
-  c.in-Ok-do_create.ensures f flat born,
-)
+pub returns : goal.returns
+returns g c f flat born =
+    let asked = c.ask_create.ensures f c.args.partition c.in_ok-found.ensures.found flat in
+    (c.in_ok-found.ensures.further f flat ∙ search rules, c.in_ok-do_create.ensures f flat born)
 
-pub returns-in-Err-do_create : goal.returns-in-Err-do_create
-returns-in-Err-do_create g c f flat born = (
-  c.in-Ok.ensures.further f flat ∙ sym (c.ask_create.ensures f c.args.partition _ c.in-Ok.ensures.found flat)
-      ∙ c.in_default.is,
-  c.in-Err-do_create.ensures f flat born,
-)
+pub returns-in_err-do_create : goal.returns-in_err-do_create
+returns-in_err-do_create g c f flat born =
+    let (_, is, gives) = err_from_is_err_and c.from_residual-in_err-do_create.result c.from_residual-in_err-do_create.ensures.1 in
+    let asked = c.ask_create.ensures f c.args.partition c.in_ok-found.ensures.found flat in
+    rw (is, gives) (c.in_ok-found.ensures.further f flat ∙ search rules, c.in_err-do_create.ensures f flat born)
