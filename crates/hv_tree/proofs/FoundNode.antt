@@ -1,6 +1,6 @@
 -- A node that is found below a child is found below the child's parent, and so is a content that is written there.
 use Rattle.std.proofs.Common.{◌≡◌, ℕ, ◌<◌, ◌∙◌, true, false, Bool, cond, refl, sym, ap, Option, None, List, ◌∷◌, Box, length, get_or, take, set, [], Some, is_some, MutBor, IfSome, IfNone, option_map}
-use Rattle.std.proofs.Common.{Bor, eq-eqb, option_copied}
+use Rattle.std.proofs.Common.{eq-eqb}
 use Rattle.std.specs.Box.{with_value}
 use Rattle.std.specs.Option.{option_copied_mut}
 use Rattle.hv_tree.specs.Nest.{Line, AreDistinct, HasTop, IsFound, IsNest, first_content, has_row, look, put_at, top}
@@ -46,14 +46,6 @@ module _ {T A : Type 0} (own : ℕ) (ks : List (Box (List (Line T)) A)) (i : ℕ
   put-found false h new has e = ap (λ s. (own, (None, content)) ∷ below own s) (ap (λ v. set ks i (with_value k v)) e ∙ set-same ks i k lt is)
 
 -- what holds of a result's copy
-pub some_copied : {X : Type 0} (P : X → Type 0) (o : Option (Bor X)) → IfSome (option_copied o) P → IfSome o (λ r. P r.now)
-some_copied P None h = tt
-some_copied P (Some r) h = h
-
-pub none_copied : {X : Type 0} (Y : Type 0) (o : Option (Bor X)) → is_some (option_copied o) ≡ true → IfNone o Y
-none_copied Y None h = cc
-none_copied Y (Some r) h = tt
-
 pub some_copied_mut : {X : Type 0} (P : X → Type 0) (o : Option (MutBor X)) → IfSome (option_copied_mut o) P → IfSome o (λ r. P r.now)
 some_copied_mut P None h = tt
 some_copied_mut P (Some r) h = h

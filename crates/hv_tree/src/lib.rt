@@ -10,7 +10,7 @@
 //!
 //! Beside the boxes, an index maps each id to its parent's. A look-up climbs the index from the requested id
 //! to the root, and keeps the ids that it meets. It comes down along them: at each node a binary search finds
-//! the next child. To a node deeper than 7 it climbs again on the way down.
+//! the next child. For a `&mut` to a node deeper than 7 it climbs again on the way down.
 //!
 //! `specs/Rows.antt` and `specs/Subtree.antt` define the words of the contracts. `proofs/Laws.antt`,
 //! `proofs/ChildLaws.antt` and `proofs/SubtreeLaws.antt` state what a caller's proof may need of them.

@@ -1,13 +1,13 @@
 //! Look-ups of a node by its id.
-ghost use Rattle.std.specs.Prelude.{◌≡◌, IfSome, IfNone, true, false, option_copied};
+ghost use Rattle.std.specs.Prelude.{◌≡◌, IfSome, IfNone, true, false};
 ghost use Rattle.std.specs.Borrow.{LendsIf, sem};
 ghost use Rattle.hv_tree.specs.contracts.node.Branch.{the_row as branch_row};
 ghost use Rattle.hv_tree.specs.contracts.node.Node.{the_row as node_row};
 ghost use Rattle.hv_tree.specs.Index.{parents, IsLaid};
 ghost use Rattle.hv_tree.specs.Lines.{lines};
 ghost use Rattle.hv_tree.specs.Nest.{has_row};
-ghost use Rattle.hv_tree.specs.Put.{put_far, put_content_far, reach, IsContentAt};
-ghost use Rattle.hv_tree.specs.Way.{places, way_to, AreRising, IsReached};
+ghost use Rattle.hv_tree.specs.Put.{put_far, put_content_far, IsContentAt};
+ghost use Rattle.hv_tree.specs.Way.{way_to, IsReached};
 
 use crate::descent::{Along, Down, Near, Toward};
 use crate::index::{Index, parent_in};
@@ -33,40 +33,11 @@ pub(crate) fn seek<'t, T, A: Allocator>(
     ensures found { IfSome result (λ n. IsReached (parents index.now) id root.now n.now) }
     ensures none { IfNone result (has_row id (lines root.now) ≡ false) }
 {
-    let path = climb(root, index, id)?;
-    match path.ids() {
-        Some(ids) => go_along(root, ids),
-        None => seek_far(root, index, id),
-    }
-}
-
-// The node to which the ids lead, each the id of a child of the node before.
-fn go_along<'t, T, A: Allocator>(branch: &'t Branch<T, A>, ids: &[u64]) -> Option<&'t Node<T, A>>
-    requires { AreRising branch.now }
-    ensures { option_copied result ≡ reach (places ids.now branch.now) branch.now }
-{
-    let Some((next, rest)) = ids.split_first() else {
-        return Some(&branch.node);
-    };
-    let child = branch.node.branch(*next)?;
-    go_along(child, rest)
-}
-
-// The node with the id, however deep. It climbs to the root, and comes down as it returns.
-fn seek_far<'t, T, A: Allocator>(
-    root: &'t Branch<T, A>,
-    index: &Index<A>,
-    id: u64,
-) -> Option<&'t Node<T, A>>
-    requires { IsLaid (lines root.now) (parents index.now) }
-    ensures found { IfSome result (λ n. IsReached (parents index.now) id root.now n.now) }
-    ensures none { IfNone result (has_row id (lines root.now) ≡ false) }
-{
     if id == root.node.id {
         return Some(&root.node);
     }
     let parent = parent_in(index, id)?;
-    let node = seek_far(root, index, parent)?;
+    let node = seek(root, index, parent)?;
     let child = node.child(id)?;
     Some(child)
 }

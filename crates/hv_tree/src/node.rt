@@ -88,23 +88,14 @@ impl<T, A: Allocator> Node<T, A> {
         }
     }
 
-    /// The child with the id, and all below it.
-    pub(crate) fn branch(&self, id: u64) -> Option<&Branch<T, A>>
-        requires { IsRising self.now }
-        ensures { option_copied result ≡ child_of self.now (place_by id (children_of self.now)) }
-    {
-        let at = self.place_of(id)?;
-        let child = self.children.get(at)?;
-        Some(child)
-    }
-
     /// The child with the id.
     pub(crate) fn child(&self, id: u64) -> Option<&Node<T, A>>
         requires { IsRising self.now }
         ensures { option_copied result
             ≡ option_map (λ b. node_of b) (child_of self.now (place_by id (children_of self.now))) }
     {
-        let child = self.branch(id)?;
+        let at = self.place_of(id)?;
+        let child = self.children.get(at)?;
         Some(&child.node)
     }
 

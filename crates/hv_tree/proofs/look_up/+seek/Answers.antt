@@ -3,7 +3,7 @@ use Rattle.hv_tree.specs.Index.{parents}
 use Rattle.hv_tree.specs.Lines.{lines}
 use Rattle.hv_tree.specs.Nest.{has_row}
 use Rattle.hv_tree.proofs.WayFound.{root-reached, lost, has-parent, falls, child-found, child-kept}
-use Rattle.hv_tree.proofs.look_up.+seek_far.Goals as goal
+use Rattle.hv_tree.proofs.look_up.+seek.Goals as goal
 
 pub returns-then-id-root-clause-found : goal.returns-then-id-root-clause-found
 returns-then-id-root-clause-found g t c = root-reached (parents c.args.index.now) c.args.root.now c.requires c.args.id c.if-id-root.true
@@ -11,8 +11,8 @@ returns-then-id-root-clause-found g t c = root-reached (parents c.args.index.now
 pub returns-in_err-parent-clause-none : goal.returns-in_err-parent-clause-none
 returns-in_err-parent-clause-none g t c = rw c.from_residual.ensures (lost (parents c.args.index.now) c.args.root.now c.requires c.args.id c.if-id-root.false (sym c.in_err-parent.ensures))
 
-pub seek_far-requires : goal.seek_far-requires
-seek_far-requires g t c κs within =
+pub seek-requires : goal.seek-requires
+seek-requires g t c κs within =
     let less = falls (parents c.args.index.now) c.args.root.now c.requires c.args.id c.in_ok-parent.parent (sym c.in_ok-parent.ensures) in
     (omega (arith, c.decreases, less), (within.0, (within.1, c.requires)))
 
