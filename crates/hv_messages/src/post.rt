@@ -42,18 +42,9 @@ pub fn post_message<A: Allocator + Clone>(
     ensures { (f : Flat) → Refines tree.old f → IsCalled f by asked.now tree.old
         (result_map_both (λ effect. ([], effect)) (λ why. why) result) tree.new }
 {
-    let (_, caller, _, _) = match admit(tree, by, asked) {
-        Ok(found) => found,
-        Err(rule) => return Err(CallError::Unmet(rule)),
-    };
-    let aimed = match ask_post(tree, caller, connection) {
-        Ok(aimed) => aimed,
-        Err(rule) => return Err(CallError::Unmet(rule)),
-    };
-    match do_post(tree, by.part, connection, aimed, message_type, payload) {
-        Ok(effect) => Ok(effect),
-        Err(AllocError) => Err(CallError::Memory),
-    }
+    let found = admit(tree, by, asked)?;
+    let aimed = ask_post(tree, found.caller, connection)?;
+    Ok(do_post(tree, by.part, connection, aimed, message_type, payload)?)
 }
 
 // Checks P16 to P23, and returns where the message goes.

@@ -37,14 +37,8 @@ pub fn signal_event<A: Allocator>(
     ensures { (f : Flat) → Refines tree.old f → IsCalled f by (call.SignalEvent connection flag) tree.old
         (result_map_both (λ effect. ([], effect)) (λ why. why) result) tree.new }
 {
-    let (_, caller, _, _) = match admit(tree, by, &Call::SignalEvent { connection, flag }) {
-        Ok(found) => found,
-        Err(rule) => return Err(CallError::Unmet(rule)),
-    };
-    let aimed = match ask_signal(tree, caller, connection, flag) {
-        Ok(aimed) => aimed,
-        Err(rule) => return Err(CallError::Unmet(rule)),
-    };
+    let found = admit(tree, by, &Call::SignalEvent { connection, flag })?;
+    let aimed = ask_signal(tree, found.caller, connection, flag)?;
     Ok(do_signal(tree, by.part, connection, aimed, flag))
 }
 
