@@ -32,11 +32,8 @@ pub fn get_memory_balance<A: Allocator>(
     ensures { (f : Flat) → Refines tree.now f → IsCalled f by (call.GetMemoryBalance partition) tree.now
         (result_map_both (λ effect. (output.new, effect)) (λ why. why) result) tree.now }
 {
-    let (_, _, target, children) = match admit(tree, by, &Call::GetMemoryBalance { partition }) {
-        Ok(found) => found,
-        Err(rule) => return Err(CallError::Unmet(rule)),
-    };
-    Ok(do_balance(target, children, output))
+    let found = admit(tree, by, &Call::GetMemoryBalance { partition })?;
+    Ok(do_balance(found.target, found.children, output))
 }
 
 // Writes the two numbers.

@@ -3,7 +3,6 @@ ghost use Rattle.std.specs.Prelude.{◌≡◌, ℕ, [], option_map, Some, IfOk, 
 ghost use Rattle.std.specs.FinMap as map;
 ghost use Rattle.std.specs.Result.{result_err, result_map_both};
 ghost use Rattle.hv_calls.specs.declared.call.Call.TheVariants as call;
-ghost use Rattle.hv_partition.specs.Partition.{PartitionState};
 ghost use Rattle.hv_policy.specs.Count.{depth as depth_of};
 ghost use Rattle.hv_policy.specs.Flat.{Flat};
 ghost use Rattle.hv_policy.specs.Met.{is_depth_left as is_depth_left_of};
@@ -19,9 +18,9 @@ use hv_calls::Call;
 use hv_defs::{Life, MAX_DEPTH};
 use hv_effect::Effect;
 use hv_partition::Partition;
-use hv_policy::{Caller, Need, Output, Rule};
+use hv_policy::{Caller, Output, Rule};
 use hv_privs::Privileges;
-use hv_refine::{CallError, Partitions, admit, balance_of};
+use hv_refine::{CallError, Found, Partitions, admit, balance_of};
 use hv_tree::{IdTree, InsertRefused};
 use std::alloc::{AllocError, Allocator};
 
@@ -42,35 +41,31 @@ pub fn create_partition<A: Allocator + Clone>(
     ensures { (f : Flat) → Refines tree.old f → f.next ≡ next → IsCalled f by (call.CreatePartition flags)
         tree.old (result_map_both (λ effect. (output.new, effect)) (λ why. why) result) tree.new }
 {
-    let (need, _, target, children) = match admit(tree, by, &Call::CreatePartition { flags }) {
-        Ok(found) => found,
-        Err(rule) => return Err(CallError::Unmet(rule)),
-    };
-    let mask = match ask_create(tree, by.part, need, target, children) {
-        Ok(mask) => mask,
-        Err(rule) => return Err(CallError::Unmet(rule)),
-    };
-    match do_create(tree, alloc, by.part, next, mask, output) {
-        Ok(effect) => Ok(effect),
-        Err(AllocError) => Err(CallError::Memory),
-    }
+    let found = admit(tree, by, &Call::CreatePartition { flags })?;
+    let mask = ask_create(tree, by.part, found)?;
+    Ok(do_create(tree, alloc, by.part, next, mask, output)?)
 }
 
 // Checks P14 and P24, and returns the mask of the new partition: the caller's, restricted.
 fn ask_create<A: Allocator>(
     tree: &Partitions<A>,
-    caller: u64,
-    need: Need,
-    target: &Partition<A>,
-    children: u32,
+    by: u64,
+    found: Found<'_, A>,
 ) -> Result<Privileges, Rule>
     requires { TreeInvariant tree.now }
-    ensures unmet { (f : Flat) (flags : ℕ) (p : PartitionState)
-        → AreFound tree.now caller (call.CreatePartition flags) need p target.now children
-        → Refines tree.now f → result_err result ≡ unmet_further f caller (call.CreatePartition flags) }
-    ensures mask { IfOk result (λ mask. mask ≡ restrict target.now.mask privilege.NEW_PARTITION) }
+    ensures unmet { (f : Flat) (flags : ℕ) → AreFound tree.now by (call.CreatePartition flags)
+        found.entry.need found.entry.caller.now found.entry.target.now found.entry.children
+        → Refines tree.now f → result_err result ≡ unmet_further f by (call.CreatePartition flags) }
+    ensures mask { IfOk result (λ mask. mask ≡ restrict found.entry.target.now.mask
+        privilege.NEW_PARTITION) }
 {
-    if !is_depth_left(tree, caller) {
+    let Found {
+        need,
+        target,
+        children,
+        ..
+    } = found;
+    if !is_depth_left(tree, by) {
         return Err(Rule::Depth);
     }
     if balance_of(target, children).available < need.charge {

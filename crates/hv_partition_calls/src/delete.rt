@@ -17,8 +17,8 @@ ghost use Rattle.hv_partition_calls.specs.Change.{effect_of_pages};
 use hv_calls::Call;
 use hv_effect::Effect;
 use hv_partition::{PageKind, Partition};
-use hv_policy::{Caller, Need, Rule};
-use hv_refine::{CallError, Partitions, admit, resolve_partition_id};
+use hv_policy::{Caller, Rule};
+use hv_refine::{CallError, Found, Partitions, admit, resolve_partition_id};
 use hv_tree::IdTree;
 use std::alloc::{AllocError, Allocator};
 
@@ -32,29 +32,22 @@ pub fn delete_partition<A: Allocator>(
     ensures { (f : Flat) → Refines tree.old f → IsCalled f by (call.DeletePartition partition) tree.old
         (result_map_both (λ effect. ([], effect)) (λ why. why) result) tree.new }
 {
-    let (need, _, target, _) = match admit(tree, by, &Call::DeletePartition { partition }) {
-        Ok(found) => found,
-        Err(rule) => return Err(CallError::Unmet(rule)),
-    };
-    let runs = match ask_delete(need, target) {
-        Ok(runs) => runs,
-        Err(rule) => return Err(CallError::Unmet(rule)),
-    };
-    match do_delete(tree, by.part, partition, runs) {
-        Ok(effect) => Ok(effect),
-        Err(AllocError) => Err(CallError::Memory),
-    }
+    let found = admit(tree, by, &Call::DeletePartition { partition })?;
+    let runs = ask_delete(found)?;
+    Ok(do_delete(tree, by.part, partition, runs)?)
 }
 
 // Checks P12, and returns the number of runs of the target's pages.
-fn ask_delete<A: Allocator>(need: Need, target: &Partition<A>) -> Result<u64, Rule>
-    requires { HasFewPages target.now }
-    ensures unmet { (tree : Rows PartitionState) (f : Flat) (by partition : ℕ) (caller : PartitionState)
-        (children : ℕ) → AreFound tree by (call.DeletePartition partition) need caller target.now children
-        → Refines tree f → result_err result ≡ unmet_further f by (call.DeletePartition partition) }
-    ensures runs { IfOk result (λ runs. runs
-        ≡ runs_of target.now.loose.pages + runs_of target.now.pooled.pages) }
+fn ask_delete<A: Allocator>(found: Found<'_, A>) -> Result<u64, Rule>
+    requires { HasFewPages found.target.now }
+    ensures unmet { (tree : Rows PartitionState) (f : Flat) (by partition : ℕ)
+        → AreFound tree by (call.DeletePartition partition) found.entry.need found.entry.caller.now
+        found.entry.target.now found.entry.children → Refines tree f
+        → result_err result ≡ unmet_further f by (call.DeletePartition partition) }
+    ensures runs { IfOk result (λ runs. runs ≡ runs_of found.entry.target.now.loose.pages
+        + runs_of found.entry.target.now.pooled.pages) }
 {
+    let Found { need, target, .. } = found;
     if !need.states.allow(target.life()) {
         return Err(Rule::TargetState);
     }

@@ -1,7 +1,7 @@
 // HvDepositMemory.
 ghost use Rattle.std.specs.Prelude.{◌≡◌, ℕ, Some, []};
 ghost use Rattle.std.specs.FinMap.{get};
-ghost use Rattle.std.specs.Result.{result_map_both};
+ghost use Rattle.std.specs.Result.{result_err, result_map_both};
 ghost use Rattle.hv_calls.specs.declared.call.Call.TheVariants as call;
 ghost use Rattle.hv_partition.specs.Partition.{PartitionState};
 ghost use Rattle.hv_policy.specs.Flat.{Flat};
@@ -16,8 +16,8 @@ use crate::pages::move_page;
 use hv_calls::Call;
 use hv_effect::Effect;
 use hv_partition::{PageKind, Partition};
-use hv_policy::{Caller, Need, Rule};
-use hv_refine::{CallError, Partitions, admit, resolve_partition_id};
+use hv_policy::{Caller, Rule};
+use hv_refine::{CallError, Found, Partitions, admit, resolve_partition_id};
 use std::alloc::{AllocError, Allocator};
 
 /// HvDepositMemory: moves a loose page of the caller to the target's pool.
@@ -33,42 +33,25 @@ pub fn deposit_memory<A: Allocator>(
     ensures { (f : Flat) → Refines tree.old f → IsCalled f by (call.DepositMemory partition page) tree.old
         (result_map_both (λ effect. ([], effect)) (λ why. why) result) tree.new }
 {
-    let (need, caller, target, _) = match admit(
-        tree,
-        by,
-        &Call::DepositMemory { partition, page },
-    ) {
-        Ok(found) => found,
-        Err(rule) => return Err(CallError::Unmet(rule)),
-    };
-    if let Some(rule) = ask_deposit(need, caller, target, page) {
-        return Err(CallError::Unmet(rule));
-    }
-    match do_deposit(tree, by.part, partition, page) {
-        Ok(effect) => Ok(effect),
-        Err(AllocError) => Err(CallError::Memory),
-    }
+    let found = admit(tree, by, &Call::DepositMemory { partition, page })?;
+    ask_deposit(found, page)?;
+    Ok(do_deposit(tree, by.part, partition, page)?)
 }
 
-// Checks P12 and P21, and returns the first of them that fails.
-fn ask_deposit<A: Allocator>(
-    need: Need,
-    caller: &Partition<A>,
-    target: &Partition<A>,
-    page: u64,
-) -> Option<Rule>
-    ensures { (tree : Rows PartitionState) (f : Flat) (by partition children : ℕ)
-        → AreFound tree by (call.DepositMemory partition page) need caller.now target.now children
-        → TreeInvariant tree → Refines tree f
-        → result ≡ unmet_further f by (call.DepositMemory partition page) }
+// Checks P12 and P21. The error is the first of them that fails.
+fn ask_deposit<A: Allocator>(found: Found<'_, A>, page: u64) -> Result<(), Rule>
+    ensures { (tree : Rows PartitionState) (f : Flat) (by partition : ℕ)
+        → AreFound tree by (call.DepositMemory partition page) found.entry.need found.entry.caller.now
+        found.entry.target.now found.entry.children → TreeInvariant tree → Refines tree f
+        → result_err result ≡ unmet_further f by (call.DepositMemory partition page) }
 {
-    if !need.states.allow(target.life()) {
-        return Some(Rule::TargetState);
+    if !found.need.states.allow(found.target.life()) {
+        return Err(Rule::TargetState);
     }
-    if !is_loose(caller, page) {
-        return Some(Rule::Operand);
+    if !is_loose(found.caller, page) {
+        return Err(Rule::Operand);
     }
-    None
+    Ok(())
 }
 
 // P21: whether a page is one of a partition's loose pages. Any number is allowed.

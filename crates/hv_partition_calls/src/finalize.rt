@@ -2,7 +2,7 @@
 ghost use Rattle.std.specs.Prelude.{◌≡◌, ℕ, ◌==◌, not, [], true, false};
 ghost use Rattle.std.specs.FinMap as map;
 ghost use Rattle.std.specs.Option.{option_map_or};
-ghost use Rattle.std.specs.Result.{result_map_both};
+ghost use Rattle.std.specs.Result.{result_err, result_map_both};
 ghost use Rattle.hv_calls.specs.declared.call.Call.TheVariants as call;
 ghost use Rattle.hv_partition.specs.Partition.{PartitionState, finalized};
 ghost use Rattle.hv_policy.specs.Flat.{Flat};
@@ -15,9 +15,8 @@ ghost use Rattle.hv_partition_calls.specs.Change.{has_vps};
 
 use hv_calls::Call;
 use hv_effect::Effect;
-use hv_partition::Partition;
-use hv_policy::{Caller, Need, Rule};
-use hv_refine::{CallError, Partitions, admit, resolve_partition_id};
+use hv_policy::{Caller, Rule};
+use hv_refine::{CallError, Found, Partitions, admit, resolve_partition_id};
 use hv_tree::IdTree;
 use std::alloc::Allocator;
 
@@ -33,34 +32,26 @@ pub fn finalize_partition<A: Allocator>(
     ensures { (f : Flat) → Refines tree.old f → IsCalled f by (call.FinalizePartition partition) tree.old
         (result_map_both (λ effect. ([], effect)) (λ why. why) result) tree.new }
 {
-    let (need, _, target, children) = match admit(
-        tree,
-        by,
-        &Call::FinalizePartition { partition },
-    ) {
-        Ok(found) => found,
-        Err(rule) => return Err(CallError::Unmet(rule)),
-    };
-    if let Some(rule) = ask_finalize(need, target, children) {
-        return Err(CallError::Unmet(rule));
-    }
+    let found = admit(tree, by, &Call::FinalizePartition { partition })?;
+    ask_finalize(found)?;
     Ok(do_finalize(tree, by.part, partition))
 }
 
 // Checks P12 and P13.
 #[tactic(auto, using(hv_refine::proofs::CountedRows::children_counted))]
-fn ask_finalize<A: Allocator>(need: Need, target: &Partition<A>, children: u32) -> Option<Rule>
-    ensures { (tree : Rows PartitionState) (f : Flat) (by partition : ℕ) (caller : PartitionState)
-        → AreFound tree by (call.FinalizePartition partition) need caller target.now children
-        → Refines tree f → result ≡ unmet_further f by (call.FinalizePartition partition) }
+fn ask_finalize<A: Allocator>(found: Found<'_, A>) -> Result<(), Rule>
+    ensures { (tree : Rows PartitionState) (f : Flat) (by partition : ℕ)
+        → AreFound tree by (call.FinalizePartition partition) found.entry.need found.entry.caller.now
+        found.entry.target.now found.entry.children → Refines tree f
+        → result_err result ≡ unmet_further f by (call.FinalizePartition partition) }
 {
-    if !need.states.allow(target.life()) {
-        return Some(Rule::TargetState);
+    if !found.need.states.allow(found.target.life()) {
+        return Err(Rule::TargetState);
     }
-    if children != 0 {
-        return Some(Rule::NoChildren);
+    if found.children != 0 {
+        return Err(Rule::NoChildren);
     }
-    None
+    Ok(())
 }
 
 fn do_finalize<A: Allocator>(tree: &mut Partitions<A>, caller: u64, partition: u64) -> Effect

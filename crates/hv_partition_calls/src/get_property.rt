@@ -1,7 +1,7 @@
 // HvGetPartitionProperty.
-ghost use Rattle.std.specs.Prelude.{◌≡◌, ℕ, None, Some, [], IfErr, IfOk};
+ghost use Rattle.std.specs.Prelude.{◌≡◌, ℕ, Some, [], IfOk};
 ghost use Rattle.std.specs.FinMap.{get};
-ghost use Rattle.std.specs.Result.{result_map_both};
+ghost use Rattle.std.specs.Result.{result_err, result_map_both};
 ghost use Rattle.hv_calls.specs.declared.call.Call.TheVariants as call;
 ghost use Rattle.hv_partition.specs.Partition.{PartitionState};
 ghost use Rattle.hv_policy.specs.Answer.{value_of};
@@ -37,23 +37,16 @@ pub fn get_partition_property<A: Allocator>(
         → IsCalled f by (call.GetPartitionProperty partition code) tree.now
         (result_map_both (λ effect. (output.new, effect)) (λ why. why) result) tree.now }
 {
-    let (_, _, target, _) = match admit(tree, by, &Call::GetPartitionProperty { partition, code }) {
-        Ok(found) => found,
-        Err(rule) => return Err(CallError::Unmet(rule)),
-    };
-    match ask_get(code) {
-        Ok(property) => Ok(do_get(target, property, output)),
-        Err(rule) => Err(CallError::Unmet(rule)),
-    }
+    let found = admit(tree, by, &Call::GetPartitionProperty { partition, code })?;
+    let property = ask_get(code)?;
+    Ok(do_get(found.target, property, output))
 }
 
 // Checks P11, and returns the property with this code.
 fn ask_get(code: u32) -> Result<Property, Rule>
     ensures known { IfOk result (λ property. property_of code ≡ Some property) }
-    ensures met { IfOk result (λ _. (f : Flat) (by partition : ℕ)
-        → unmet_further f by (call.GetPartitionProperty partition code) ≡ None) }
-    ensures unmet { IfErr result (λ rule. (f : Flat) (by partition : ℕ)
-        → unmet_further f by (call.GetPartitionProperty partition code) ≡ Some rule) }
+    ensures unmet { (f : Flat) (by partition : ℕ)
+        → result_err result ≡ unmet_further f by (call.GetPartitionProperty partition code) }
 {
     match Property::of(code) {
         Some(property) => Ok(property),

@@ -1,6 +1,6 @@
 // HvInitializePartition.
 ghost use Rattle.std.specs.Prelude.{◌≡◌, ℕ, []};
-ghost use Rattle.std.specs.Result.{result_map_both};
+ghost use Rattle.std.specs.Result.{result_err, result_map_both};
 ghost use Rattle.hv_calls.specs.declared.call.Call.TheVariants as call;
 ghost use Rattle.hv_defs.specs.declared.life.Life.TheVariants as life;
 ghost use Rattle.hv_partition.specs.Partition.{PartitionState};
@@ -14,9 +14,8 @@ ghost use Rattle.hv_tree.specs.Rows.{Rows, change as changed};
 use hv_calls::Call;
 use hv_defs::Life;
 use hv_effect::Effect;
-use hv_partition::Partition;
-use hv_policy::{Caller, Need, Rule};
-use hv_refine::{CallError, Partitions, admit, resolve_partition_id};
+use hv_policy::{Caller, Rule};
+use hv_refine::{CallError, Found, Partitions, admit, resolve_partition_id};
 use hv_tree::IdTree;
 use std::alloc::Allocator;
 
@@ -30,26 +29,22 @@ pub fn initialize_partition<A: Allocator>(
     ensures { (f : Flat) → Refines tree.old f → IsCalled f by (call.InitializePartition partition) tree.old
         (result_map_both (λ effect. ([], effect)) (λ why. why) result) tree.new }
 {
-    let (need, _, target, _) = match admit(tree, by, &Call::InitializePartition { partition }) {
-        Ok(found) => found,
-        Err(rule) => return Err(CallError::Unmet(rule)),
-    };
-    if let Some(rule) = ask_initialize(need, target) {
-        return Err(CallError::Unmet(rule));
-    }
+    let found = admit(tree, by, &Call::InitializePartition { partition })?;
+    ask_initialize(found)?;
     Ok(do_initialize(tree, by.part, partition))
 }
 
 // Checks P12.
-fn ask_initialize<A: Allocator>(need: Need, target: &Partition<A>) -> Option<Rule>
-    ensures { (tree : Rows PartitionState) (f : Flat) (by partition : ℕ) (caller : PartitionState)
-        (children : ℕ) → AreFound tree by (call.InitializePartition partition) need caller target.now children
-        → Refines tree f → result ≡ unmet_further f by (call.InitializePartition partition) }
+fn ask_initialize<A: Allocator>(found: Found<'_, A>) -> Result<(), Rule>
+    ensures { (tree : Rows PartitionState) (f : Flat) (by partition : ℕ)
+        → AreFound tree by (call.InitializePartition partition) found.entry.need found.entry.caller.now
+        found.entry.target.now found.entry.children → Refines tree f
+        → result_err result ≡ unmet_further f by (call.InitializePartition partition) }
 {
-    if !need.states.allow(target.life()) {
-        return Some(Rule::TargetState);
+    if !found.need.states.allow(found.target.life()) {
+        return Err(Rule::TargetState);
     }
-    None
+    Ok(())
 }
 
 #[tactic(auto, using(crate::proofs::LifeChanges::activated_tied, hv_effect::proofs::PagesAndVps::untold))]

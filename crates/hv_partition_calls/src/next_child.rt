@@ -1,6 +1,6 @@
 // HvGetNextChildPartition.
 ghost use Rattle.std.specs.Prelude.{◌≡◌, ℕ, ◌==◌, ◌||◌, []};
-ghost use Rattle.std.specs.Result.{result_map_both};
+ghost use Rattle.std.specs.Result.{result_err, result_map_both};
 ghost use Rattle.hv_calls.specs.declared.call.Call.TheVariants as call;
 ghost use Rattle.hv_policy.specs.Answer.{next_child as next_child_of};
 ghost use Rattle.hv_policy.specs.Flat.{Flat};
@@ -33,27 +33,27 @@ pub fn get_next_child_partition<A: Allocator>(
         partition,
         previous,
     };
-    if let Err(rule) = admit(tree, by, &asked) {
-        return Err(CallError::Unmet(rule));
-    }
+    admit(tree, by, &asked)?;
     let target = resolve_partition_id(by.part, partition);
-    if let Some(rule) = ask_next_child(tree, target, previous) {
-        return Err(CallError::Unmet(rule));
-    }
+    ask_next_child(tree, target, previous)?;
     output.push_number(next_child(tree, target, previous));
     Ok(Effect::Nothing)
 }
 
 // Checks P15: the previous child is 0, or a child of the target.
-fn ask_next_child<A: Allocator>(tree: &Partitions<A>, target: u64, previous: u64) -> Option<Rule>
+fn ask_next_child<A: Allocator>(
+    tree: &Partitions<A>,
+    target: u64,
+    previous: u64,
+) -> Result<(), Rule>
     ensures { (f : Flat) (by partition : ℕ) → Refines tree.now f
         → target ≡ target_of (call.GetNextChildPartition partition previous) by
-        → result ≡ unmet_further f by (call.GetNextChildPartition partition previous) }
+        → result_err result ≡ unmet_further f by (call.GetNextChildPartition partition previous) }
 {
     if previous != 0 && !is_child(tree, target, previous) {
-        return Some(Rule::PeerExists);
+        return Err(Rule::PeerExists);
     }
-    None
+    Ok(())
 }
 
 fn is_child<A: Allocator>(tree: &Partitions<A>, parent: u64, id: u64) -> bool

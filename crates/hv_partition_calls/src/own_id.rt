@@ -22,9 +22,7 @@ pub fn get_partition_id<A: Allocator>(
     ensures { (f : Flat) → Refines tree.now f → IsCalled f by call.GetPartitionId tree.now
         (result_map_both (λ effect. (output.new, effect)) (λ why. why) result) tree.now }
 {
-    if let Err(rule) = admit(tree, by, &Call::GetPartitionId) {
-        return Err(CallError::Unmet(rule));
-    }
+    admit(tree, by, &Call::GetPartitionId)?;
     output.push_number(by.part);
     Ok(Effect::Nothing)
 }

@@ -1,6 +1,6 @@
 // HvSetPartitionProperty.
-ghost use Rattle.std.specs.Prelude.{◌≡◌, ℕ, None, Some, [], IfErr, IfOk};
-ghost use Rattle.std.specs.Result.{result_map_both};
+ghost use Rattle.std.specs.Prelude.{◌≡◌, ℕ, Some, [], IfOk};
+ghost use Rattle.std.specs.Result.{result_err, result_map_both};
 ghost use Rattle.hv_calls.specs.declared.call.Call.TheVariants as call;
 ghost use Rattle.hv_partition.specs.Partition.{PartitionState};
 ghost use Rattle.hv_policy.specs.Effect.{narrowed as narrowed_parts, narrows as narrows_of, property_set};
@@ -18,9 +18,9 @@ use hv_calls::Call;
 use hv_defs::Life;
 use hv_effect::Effect;
 use hv_partition::Partition;
-use hv_policy::{Caller, Need, Property, Rule};
+use hv_policy::{Caller, Property, Rule};
 use hv_privs::Privileges;
-use hv_refine::{CallError, Partitions, admit, resolve_partition_id};
+use hv_refine::{CallError, Found, Partitions, admit, resolve_partition_id};
 use hv_tree::Edit;
 use std::alloc::Allocator;
 
@@ -40,22 +40,13 @@ pub fn set_partition_property<A: Allocator>(
     ensures { (f : Flat) → Refines tree.old f → IsCalled f by (call.SetPartitionProperty partition code value)
         tree.old (result_map_both (λ effect. ([], effect)) (λ why. why) result) tree.new }
 {
-    let (need, caller, target, _) = match admit(
-        tree,
-        by,
-        &Call::SetPartitionProperty {
-            partition,
-            code,
-            value,
-        },
-    ) {
-        Ok(found) => found,
-        Err(rule) => return Err(CallError::Unmet(rule)),
+    let call = Call::SetPartitionProperty {
+        partition,
+        code,
+        value,
     };
-    let setting = match ask_set(need, caller, target, code, value) {
-        Ok(setting) => setting,
-        Err(rule) => return Err(CallError::Unmet(rule)),
-    };
+    let found = admit(tree, by, &call)?;
+    let setting = ask_set(found, code, value)?;
     Ok(do_set(tree, by.part, partition, setting, value))
 }
 
@@ -67,22 +58,22 @@ struct Setting {
 }
 
 // Checks P11, P12, P18 and P20, and returns what is to be set.
-fn ask_set<A: Allocator>(
-    need: Need,
-    caller: &Partition<A>,
-    target: &Partition<A>,
-    code: u32,
-    value: u64,
-) -> Result<Setting, Rule>
-    ensures setting { IfOk result (λ setting. (tree : Rows PartitionState) (f : Flat)
-        (by partition children : ℕ)
-        → AreFound tree by (call.SetPartitionProperty partition code value) need caller.now target.now
-        children → Refines tree f → MaySet f by partition code value setting) }
-    ensures unmet { IfErr result (λ rule. (tree : Rows PartitionState) (f : Flat) (by partition children : ℕ)
-        → AreFound tree by (call.SetPartitionProperty partition code value) need caller.now target.now
-        children → Refines tree f
-        → unmet_further f by (call.SetPartitionProperty partition code value) ≡ Some rule) }
+fn ask_set<A: Allocator>(found: Found<'_, A>, code: u32, value: u64) -> Result<Setting, Rule>
+    ensures setting { IfOk result (λ setting. (tree : Rows PartitionState) (f : Flat) (by partition : ℕ)
+        → AreFound tree by (call.SetPartitionProperty partition code value) found.entry.need
+        found.entry.caller.now found.entry.target.now found.entry.children → Refines tree f
+        → MaySet f by partition code value setting) }
+    ensures unmet { (tree : Rows PartitionState) (f : Flat) (by partition : ℕ)
+        → AreFound tree by (call.SetPartitionProperty partition code value) found.entry.need
+        found.entry.caller.now found.entry.target.now found.entry.children → Refines tree f
+        → result_err result ≡ unmet_further f by (call.SetPartitionProperty partition code value) }
 {
+    let Found {
+        need,
+        caller,
+        target,
+        ..
+    } = found;
     let Some(property) = Property::of(code) else {
         return Err(Rule::PropertyKnown);
     };

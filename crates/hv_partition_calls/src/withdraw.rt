@@ -1,7 +1,7 @@
 // HvWithdrawMemory.
-ghost use Rattle.std.specs.Prelude.{◌≡◌, ℕ, None, Some, [], IfErr, IfNone, IfOk};
+ghost use Rattle.std.specs.Prelude.{◌≡◌, ℕ, Some, [], IfNone, IfOk};
 ghost use Rattle.std.specs.FinSet as set;
-ghost use Rattle.std.specs.Result.{result_map_both};
+ghost use Rattle.std.specs.Result.{result_err, result_map_both};
 ghost use Rattle.hv_calls.specs.declared.call.Call.TheVariants as call;
 ghost use Rattle.hv_partition.specs.Partition.{PartitionState};
 ghost use Rattle.hv_policy.specs.Count.{lowest_pooled as lowest_pooled_of};
@@ -18,8 +18,8 @@ use crate::pages::move_page;
 use hv_calls::Call;
 use hv_effect::Effect;
 use hv_partition::{PageKind, Partition};
-use hv_policy::{Caller, Need, Output, Rule};
-use hv_refine::{CallError, Partitions, admit, balance_of, resolve_partition_id};
+use hv_policy::{Caller, Output, Rule};
+use hv_refine::{CallError, Found, Partitions, admit, balance_of, resolve_partition_id};
 use std::alloc::{AllocError, Allocator};
 
 /// HvWithdrawMemory: moves the lowest page of the target's pool to the caller's loose pages.
@@ -37,34 +37,28 @@ pub fn withdraw_memory<A: Allocator>(
     ensures { (f : Flat) → Refines tree.old f → IsCalled f by (call.WithdrawMemory partition) tree.old
         (result_map_both (λ effect. (output.new, effect)) (λ why. why) result) tree.new }
 {
-    let (need, _, target, children) = match admit(tree, by, &Call::WithdrawMemory { partition }) {
-        Ok(found) => found,
-        Err(rule) => return Err(CallError::Unmet(rule)),
-    };
-    let page = match ask_withdraw(need, target, children) {
-        Ok(page) => page,
-        Err(rule) => return Err(CallError::Unmet(rule)),
-    };
-    match do_withdraw(tree, by.part, partition, page, output) {
-        Ok(effect) => Ok(effect),
-        Err(AllocError) => Err(CallError::Memory),
-    }
+    let found = admit(tree, by, &Call::WithdrawMemory { partition })?;
+    let page = ask_withdraw(found)?;
+    Ok(do_withdraw(tree, by.part, partition, page, output)?)
 }
 
 // Checks P24, and returns the page to move: the lowest pooled page of the target.
-fn ask_withdraw<A: Allocator>(need: Need, target: &Partition<A>, children: u32) -> Result<u32, Rule>
+fn ask_withdraw<A: Allocator>(found: Found<'_, A>) -> Result<u32, Rule>
     ensures page { IfOk result (λ page. (tree : Rows PartitionState) (f : Flat) (by partition : ℕ)
-        (caller : PartitionState)
-        → AreFound tree by (call.WithdrawMemory partition) need caller target.now children
-        → TreeInvariant tree → Refines tree f
-        → (unmet_further f by (call.WithdrawMemory partition) ≡ None)
-        × (lowest_pooled_of f (target_of (call.WithdrawMemory partition) by) ≡ Some page)) }
-    ensures unmet { IfErr result (λ rule. (tree : Rows PartitionState) (f : Flat) (by partition : ℕ)
-        (caller : PartitionState)
-        → AreFound tree by (call.WithdrawMemory partition) need caller target.now children
-        → TreeInvariant tree → Refines tree f
-        → unmet_further f by (call.WithdrawMemory partition) ≡ Some rule) }
+        → AreFound tree by (call.WithdrawMemory partition) found.entry.need found.entry.caller.now
+        found.entry.target.now found.entry.children → Refines tree f
+        → lowest_pooled_of f (target_of (call.WithdrawMemory partition) by) ≡ Some page) }
+    ensures unmet { (tree : Rows PartitionState) (f : Flat) (by partition : ℕ)
+        → AreFound tree by (call.WithdrawMemory partition) found.entry.need found.entry.caller.now
+        found.entry.target.now found.entry.children → Refines tree f
+        → result_err result ≡ unmet_further f by (call.WithdrawMemory partition) }
 {
+    let Found {
+        need,
+        target,
+        children,
+        ..
+    } = found;
     if balance_of(target, children).available < need.charge {
         return Err(Rule::Pages);
     }
