@@ -115,7 +115,9 @@ typedef struct hvpm_effect {
     uint64_t partition; /* SYNIC, PROCESSOR, PARTITION: the partition. PAGE, PAGES: the partition that now
                            owns the pages */
     uint64_t page;      /* PAGE: the page. PAGES: id of the deleted partition that owned the pages */
-    uint64_t raised[4]; /* SYNIC: the vectors that were raised; vector v is bit v % 64 of raised[v / 64] */
+    uint64_t raised[4]; /* SYNIC: the vectors that were raised: exactly those of the SINTs that show a message
+                           and showed none, and of the SINT whose flag was set, unless masked; vector v is bit
+                           v % 64 of raised[v / 64] */
     uint16_t shown;     /* SYNIC: bit s is 1 if the slot of SINT s changed: it shows another message, or is
                            now empty */
     uint16_t waiting;   /* SYNIC: bit s is 1 if one more message waits at SINT s, behind that in the slot */
@@ -154,12 +156,14 @@ enum hvpm_effect_kind {
                                   have this effect */
     HVPM_EFFECT_SYNIC = 1,     /* a message, a flag or vectors changed at one processor, which may be the
                                   caller */
-    HVPM_EFFECT_PAGE = 2,      /* a page moved to another partition, or into or out of a pool */
-    HVPM_EFFECT_PAGES = 3,     /* a partition was deleted; its pages, at least one, are now loose pages of
-                                  another partition */
-    HVPM_EFFECT_PROCESSOR = 4, /* a processor was created or deleted; it has no message, flag or vector */
-    HVPM_EFFECT_PARTITION = 5  /* a partition was finalized; its processors, at least one, were removed with
-                                  their messages, flags and vectors */
+    HVPM_EFFECT_PAGE = 2,      /* a page moved to another partition, or into or out of a pool; the partition
+                                  that owned it still exists */
+    HVPM_EFFECT_PAGES = 3,     /* a partition was deleted and no longer exists; its pages, at least one, are
+                                  now loose pages of another partition */
+    HVPM_EFFECT_PROCESSOR = 4, /* a processor was created or deleted; it has no message, flag or vector, and
+                                  its partition is Active */
+    HVPM_EFFECT_PARTITION = 5  /* a partition was finalized and is Finalized; its processors, at least one,
+                                  were removed with their messages, flags and vectors */
 };
 
 /* The values of `flag_is` if a flag changed. */
@@ -176,9 +180,8 @@ enum hvpm_kind {
 /*
  * The status of a call. If several apply, it is the first of: HVPM_STATUS_NULL; HVPM_STATUS_EMPTY or
  * HVPM_STATUS_OCCUPIED; HVPM_STATUS_PAGES; HVPM_STATUS_POOL; HVPM_STATUS_VPS; HVPM_STATUS_NONE;
- * HVPM_STATUS_SHORT; HVPM_STATUS_USED_UP; HVPM_STATUS_MEMORY. Two exceptions: a hypercall may return
- * HVPM_STATUS_MEMORY before HVPM_STATUS_USED_UP, and a function that writes text HVPM_STATUS_MEMORY before
- * HVPM_STATUS_SHORT.
+ * HVPM_STATUS_SHORT; HVPM_STATUS_USED_UP; HVPM_STATUS_MEMORY. One exception: a function that writes text may
+ * return HVPM_STATUS_MEMORY before HVPM_STATUS_SHORT.
  */
 enum hvpm_status {
     HVPM_STATUS_OK = 0,
@@ -188,8 +191,9 @@ enum hvpm_status {
                                  `outputs_size` is less than HVPM_OUTPUT, or `text_size` is less than the
                                  length of the text */
     HVPM_STATUS_USED_UP = 4,  /* the machine served 2^64 - 3 events, or took 2^64 - 1: it takes no more */
-    HVPM_STATUS_MEMORY = 5,   /* out of memory; you may retry. Accesses never return this, and hvpm_table() is
-                                 the only look that does */
+    HVPM_STATUS_MEMORY = 5,   /* out of memory; you may retry. A hypercall returns this only if it has input
+                                 list bytes, or would be served and may need memory. Accesses never return
+                                 this, and hvpm_table() is the only look that does */
     HVPM_STATUS_PAGES = 6,    /* boot: no pages, or more than 65,536 */
     HVPM_STATUS_POOL = 7,     /* boot: more pooled pages than pages */
     HVPM_STATUS_VPS = 8,      /* boot: no processors, more than 64, or more than the pool can pay for */

@@ -1,5 +1,5 @@
 -- Where the elements of a call have come to after one more, and what their effects say.
-use Rattle.std.proofs.Common.{IsTrue, Bool, true, false, if◌then◌else◌, Option, Some, None}
+use Rattle.std.proofs.Common.{Bool, true, false, if◌then◌else◌, Option, Some, None}
 use Rattle.std.proofs.Common.{◌<◌, ◌≡◌, ℕ, ◌+◌, ◌≤◌, List, [], ◌++◌, length, take, refl, sym, subst, ap, ◌∙◌, arith, add-one, below_more, length-take, suc, Global}
 use Rattle.hv_abi.specs.declared.frame.Frame.{Frame}
 use Rattle.hv_defs.specs.declared.sizes.TheConstants.{REPS_END}
@@ -7,7 +7,7 @@ use Rattle.hv_policy.specs.Parts.{next_in}
 use Rattle.hv_history.specs.Run.{IsMore, restart}
 use Rattle.hv_machine.specs.IsFlat.{IsFlat}
 use Rattle.hv_machine.specs.State.{State}
-use Rattle.hv_policy.specs.Call.{call_event, may_take_memory}
+use Rattle.hv_policy.specs.Call.{call_event}
 use Rattle.hv_policy.specs.Flat.{Flat}
 use Rattle.hv_policy.specs.Step.{step}
 use Rattle.hv_policy.specs.declared.event.Action.TheVariants.{Hypercall}
@@ -16,7 +16,7 @@ use Rattle.hv_policy.specs.declared.reply.Reply.{Reply}
 use Rattle.hv_embed.specs.Answer.{IsAnswer}
 use Rattle.hv_embed.specs.Effect.{is_quiet_kind, IsCalm, IsEffect, IsShown}
 use Rattle.hv_embed.specs.Run.{HasRun, IsAt, IsAtMore, Ran, first, on, output_in, run, IsLastEffect, flat_before}
-use Rattle.hv_embed.specs.Taken.{is_used_up}
+use Rattle.hv_embed.specs.Taken.{MayLackMemory, is_used_up}
 use Rattle.hv_embed.specs.declared.layout.HvReply.{HvReply}
 use Rattle.hv_embed.specs.declared.layout.TheConstants.{ELEMENT_OUTPUT}
 use Rattle.hv_abi.specs.Check.{call_of}
@@ -67,8 +67,8 @@ at_first f by frame m answer out reply state put = record { state = state; frame
 pub has_run : (by : Caller) (start : Ran) (before n : ℕ) (m : State) (last : Frame Global) (told : Reply) (answer : HvReply) (outputs : List ℕ) (at : ℕ) → IsAtMore n by start m last told
     (take at outputs) → at ≤ length outputs
     → IsAnswer answer (Hypercall last) told
-    → (IsMore told → is_quiet_kind answer.effect.kind ≡ true → at + ELEMENT_OUTPUT ≤ length outputs → is_used_up m.served (before + (n + 1)) ≡ false → n < REPS_END → IsTrue
-    (may_take_memory (call_event by (restart last (next_in told)))))
+    → (IsMore told → is_quiet_kind answer.effect.kind ≡ true → at + ELEMENT_OUTPUT ≤ length outputs → is_used_up m.served (before + (n + 1)) ≡ false → n < REPS_END
+    → MayLackMemory m by (restart last (next_in told)))
     → HasRun by start before m answer outputs (record { events = n + 1; output_len = at })
 has_run by start before n m last told answer outputs at is within says stopped =
     let now = is.stands in
@@ -83,7 +83,7 @@ has_run by start before n m last told answer outputs at is within says stopped =
       len = omega (arith, length-take at outputs, ap length now.bytes);
       bytes = now.bytes;
       stopped = λ more quiet left free few.
-          subst (λ (f : Frame Global). IsTrue (may_take_memory (call_event by f))) (ap (λ (f : Frame Global). restart f (next_in told)) now.frame ∙ ap
+          subst (MayLackMemory m by) (ap (λ (f : Frame Global). restart f (next_in told)) now.frame ∙ ap
           (λ (r : Reply). restart (run n by start).frame (next_in r)) now.reply)
           (stopped (subst IsMore (sym now.reply) more) quiet (omega arith) free few);
     }

@@ -1,5 +1,5 @@
 -- A run: the elements of one call, one after another.
-use Rattle.std.specs.Prelude.{ℕ, zero, suc, ◌≡◌, ◌+◌, ◌-◌, ◌<◌, ◌≤◌, List, [], ◌++◌, IsTrue, true, false, not}
+use Rattle.std.specs.Prelude.{ℕ, zero, suc, ◌≡◌, ◌+◌, ◌-◌, ◌<◌, ◌≤◌, List, [], ◌++◌, true, false, not}
 use Rattle.std.specs.Prelude.{nat_lt, length, take, if◌then◌else◌}
 use Rattle.std.specs.Global.{Global}
 use Rattle.hv_abi.specs.declared.frame.Frame.{Frame}
@@ -10,7 +10,7 @@ use Rattle.hv_machine.specs.IsFlat.{IsFlat}
 use Rattle.hv_machine.specs.MachineInvariant.{MachineInvariant}
 use Rattle.hv_machine.specs.Sound.{IsSound}
 use Rattle.hv_machine.specs.State.{State}
-use Rattle.hv_policy.specs.Call.{call_event, may_take_memory}
+use Rattle.hv_policy.specs.Call.{call_event}
 use Rattle.hv_policy.specs.Flat.{Flat}
 use Rattle.hv_policy.specs.Step.{step}
 use Rattle.hv_policy.specs.declared.event.Action.TheVariants.{Hypercall}
@@ -19,7 +19,7 @@ use Rattle.hv_policy.specs.declared.reply.Reply.{Reply}
 use Rattle.hv_policy.specs.declared.reply.Reply.TheVariants.{Served, More, Denied, Fault}
 use Rattle.hv_embed.specs.Answer.{IsAnswer}
 use Rattle.hv_embed.specs.Effect.{IsCalm, IsEffect, is_quiet_kind}
-use Rattle.hv_embed.specs.Taken.{is_used_up}
+use Rattle.hv_embed.specs.Taken.{MayLackMemory, is_used_up}
 use Rattle.hv_embed.specs.declared.handle.HvMachine.{HvMachine}
 use Rattle.hv_embed.specs.declared.layout.HvEffect.{HvEffect}
 use Rattle.hv_embed.specs.declared.layout.HvReply.{HvReply}
@@ -83,12 +83,12 @@ pub record IsAtMore (n : ℕ) (by : Caller) (ran : Ran) (m : State) (last : Fram
 
 -- The run ends here: the call does not continue, or the last effect names more than a page, or too few bytes
 -- are left for another output, or no more events are counted, or as many elements were taken as a call can
--- have. Otherwise the host refused the next element, which may take memory.
+-- have. Otherwise the host was out of memory for the next element, which no rule refuses.
 abbrev pub HasStopped : Caller → Ran → State → HvEffect → (left more events : ℕ) → Type 0
 HasStopped by ran m told left more events =
     IsMore ran.reply → is_quiet_kind told.kind ≡ true → ELEMENT_OUTPUT ≤ left → is_used_up m.served events ≡
     false → more < REPS_END
-    → IsTrue (may_take_memory (call_event by (restart ran.frame (next_in ran.reply))))
+    → MayLackMemory m by (restart ran.frame (next_in ran.reply))
 
 -- The machine took the first element of a call, and as many further ones as it could. `before` is the number
 -- of events before the first. Each reply but the last says that the call continues. The reply for C is that

@@ -1,7 +1,8 @@
 -- The effect of a call on a handle.
 use Rattle.std.specs.Prelude.{◌≡◌, ◌+◌, ◌<◌, ◌&&◌, ◌||◌, ℕ, List, Bool, true, not, nat_le, nat_lt, length}
-use Rattle.std.specs.Prelude.{take, None, if◌then◌else◌}
+use Rattle.std.specs.Prelude.{take, None, IsTrue, if◌then◌else◌}
 use Rattle.std.specs.Global.{Global}
+use Rattle.hv_abi.specs.declared.frame.Frame.{Frame}
 use Rattle.hv_machine.specs.IsFlat.{IsFlat}
 use Rattle.hv_machine.specs.MachineInvariant.{MachineInvariant}
 use Rattle.hv_machine.specs.Sound.{IsSound}
@@ -9,10 +10,13 @@ use Rattle.hv_machine.specs.State.{State}
 use Rattle.hv_defs.specs.declared.sizes.TheConstants.{MAX_SERVED}
 use Rattle.hv_policy.specs.Boot.{boot}
 use Rattle.hv_policy.specs.BootFault.{boot_fault, IsBootRefusal}
+use Rattle.hv_policy.specs.Call.{call_event, may_take_memory}
 use Rattle.hv_policy.specs.Flat.{Flat}
+use Rattle.hv_policy.specs.Rules.{unmet}
 use Rattle.hv_policy.specs.Step.{step}
 use Rattle.hv_policy.specs.declared.config.BootRefused.{BootRefused}
 use Rattle.hv_policy.specs.declared.config.Config.{Config}
+use Rattle.hv_policy.specs.declared.event.Caller.{Caller}
 use Rattle.hv_policy.specs.declared.event.Event.{Event}
 use Rattle.hv_text.specs.declared.text.TheConstants.{LINE}
 use Rattle.hv_embed.specs.Answer.{IsAnswer, line_text, refusal_status}
@@ -70,6 +74,11 @@ pub record IsTaken (event : Event Global) (old new : HvMachine) (answer : HvRepl
     pub step : IsStepped event new.events old.raw_machine.machine new.raw_machine.machine answer buffer
     pub events : new.events ≡ old.events + 1
     pub live : new.live ≡ true
+
+-- the host may be out of memory for a call: serving it may need memory, and no rule refuses it
+pub record MayLackMemory (m : State) (by : Caller) (frame : Frame Global) : Type 0 where
+  pub memory : IsTrue (may_take_memory (call_event by frame))
+  pub served : (f : Flat) → IsFlat m f → unmet f (call_event by frame) ≡ None
 
 -- nothing changed
 pub record IsAsBefore (old new : HvMachine) : Type 0 where

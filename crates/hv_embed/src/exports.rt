@@ -1,13 +1,11 @@
 // The functions that C calls to boot a machine, to take events, and to destroy it.
-ghost use Rattle.std.specs.Prelude.{◌≡◌, ◌≢◌, ◌≤◌, length, false, true};
+ghost use Rattle.std.specs.Prelude.{◌≡◌, ◌≢◌, [], length, false, true};
 ghost use Rattle.hv_policy.specs.declared.event.Action.TheVariants.{ClearFlag, ClearSlot, Hypercall};
 ghost use Rattle.hv_policy.specs.declared.event.Action.TheVariants.{ReadFlags, ReadMsr, ReadSlot};
 ghost use Rattle.hv_policy.specs.declared.event.Action.TheVariants.{TakeInterrupt, WriteMsr};
 ghost use Rattle.hv_embed.specs.Answer.{caller_of, config_of, event_of as event_by, frame_of};
 ghost use Rattle.hv_embed.specs.Run.{IsRunTaken, run_readiness};
-ghost use Rattle.hv_embed.specs.Taken.{IsAsBefore, IsBooted, IsRefused, IsTaken, is_short as is_short_len};
-ghost use Rattle.hv_embed.specs.Taken.{readiness};
-ghost use Rattle.hv_embed.specs.declared.layout.TheConstants.{ELEMENT_OUTPUT};
+ghost use Rattle.hv_embed.specs.Taken.{IsAsBefore, IsBooted, IsRefused, IsTaken, MayLackMemory, readiness};
 ghost use Rattle.hv_embed.specs.declared.status.TheConstants.{DONE, MEMORY, OCCUPIED};
 
 use crate::answer::is_short;
@@ -60,7 +58,8 @@ pub extern "C" fn hv_embed_boot(alloc: Global, machine: &mut HvMachine, config: 
 
 /// Takes a hypercall of a processor with the bytes of its input list.
 ///
-/// For a rep call it takes one element, the one at the start index in RCX.
+/// For a rep call it takes one element, the one at the start index in RCX. Memory may run out if the call has
+/// an input list, which is copied, or if it is served and may take memory.
 #[unsafe(no_mangle)]
 pub extern "C" fn hv_embed_hypercall(
     alloc: Global,
@@ -77,8 +76,9 @@ pub extern "C" fn hv_embed_hypercall(
     ensures kept { result ≢ DONE → IsAsBefore machine.old machine.new }
     ensures unwritten { result ≢ DONE → (reply.new ≡ reply.old) × (line.new ≡ line.old) }
     ensures status { result ≢ MEMORY → result ≡ readiness machine.old (length line.old) }
-    ensures memory { result ≡ MEMORY
-        → (machine.old.live ≡ true) × (is_short_len (length line.old) ≡ false) }
+    ensures free { result ≡ MEMORY → readiness machine.old (length line.old) ≡ DONE }
+    ensures memory { result ≡ MEMORY → (frame_of registers.now input.now).input ≡ []
+        → MayLackMemory machine.old.raw_machine.machine (caller_of by) (frame_of registers.now input.now) }
 {
     let state = state_of!(machine);
     if is_short(line) {
@@ -117,7 +117,9 @@ pub extern "C" fn hv_embed_run(
     ensures unwritten { result ≢ DONE → (reply.new ≡ reply.old) × (outputs.new ≡ outputs.old)
         × (done.new ≡ done.old) }
     ensures status { result ≢ MEMORY → result ≡ run_readiness machine.old (length outputs.old) }
-    ensures memory { result ≡ MEMORY → (machine.old.live ≡ true) × (ELEMENT_OUTPUT ≤ length outputs.old) }
+    ensures free { result ≡ MEMORY → run_readiness machine.old (length outputs.old) ≡ DONE }
+    ensures memory { result ≡ MEMORY → (frame_of registers.now input.now).input ≡ []
+        → MayLackMemory machine.old.raw_machine.machine (caller_of by) (frame_of registers.now input.now) }
 {
     let state = state_of!(machine);
     if outputs.len() < ELEMENT_OUTPUT {

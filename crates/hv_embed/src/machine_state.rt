@@ -1,5 +1,5 @@
 // The contents of a handle's block: a machine, and memory that its events reuse.
-ghost use Rattle.std.specs.Prelude.{◌≡◌, OnOk, take};
+ghost use Rattle.std.specs.Prelude.{◌≡◌, ◌≢◌, [], OnErr, OnOk, take};
 ghost use Rattle.hv_embed.specs.Answer.{frame_of as frame_by, list_len};
 
 use crate::layout::HvRegisters;
@@ -69,18 +69,23 @@ pub(crate) fn no_frame(alloc: Global) -> Frame<Global> {
 }
 
 // Fills a frame with these registers and the input list at the start of these bytes, in the memory that it
-// has if that is enough.
+// has if that is enough. An empty list takes none.
 pub(crate) fn refill(
     frame: &mut Frame<Global>,
     registers: &HvRegisters,
     input: &[u8],
 ) -> Result<(), AllocError>
-    ensures { OnOk result (frame.new ≡ frame_by registers.now input.now) }
+    ensures filled { OnOk result (frame.new ≡ frame_by registers.now input.now) }
+    ensures some { OnErr result ((frame_by registers.now input.now).input ≢ []) }
 {
     frame.rcx = registers.rcx;
     frame.rdx = registers.rdx;
     frame.r8 = registers.r8;
-    frame.input.refill(list_in(registers.rcx, input))
+    let list = list_in(registers.rcx, input);
+    match frame.input.refill(list) {
+        Err(AllocError) if !list.is_empty() => Err(AllocError),
+        Ok(()) | Err(AllocError) => Ok(()),
+    }
 }
 
 // Returns the input list of a call, which is at the start of these bytes. Bytes behind it aren't read.

@@ -1,5 +1,5 @@
 // Taking the elements of one call of a handle's machine.
-ghost use Rattle.std.specs.Prelude.{◌≡◌, ◌≢◌, ◌+◌, ◌*◌, ◌<◌, ◌≤◌, ◌++◌, length, take, false, true, IsTrue};
+ghost use Rattle.std.specs.Prelude.{◌≡◌, ◌≢◌, ◌+◌, ◌*◌, ◌<◌, ◌≤◌, ◌++◌, length, take, false, true, []};
 ghost use Rattle.std.specs.Prelude.{if◌then◌else◌};
 ghost use Rattle.hv_defs.specs.declared.sizes.TheConstants.{REPS_END};
 ghost use Rattle.hv_policy.specs.Parts.{next_in, reply_of};
@@ -7,14 +7,13 @@ ghost use Rattle.hv_history.specs.Run.{IsMore, restart as restarted_at};
 ghost use Rattle.hv_machine.specs.IsFlat.{IsFlat};
 ghost use Rattle.hv_machine.specs.MachineInvariant.{MachineInvariant};
 ghost use Rattle.hv_machine.specs.Sound.{IsSound};
-ghost use Rattle.hv_policy.specs.Call.{call_event, may_take_memory};
 ghost use Rattle.hv_policy.specs.Flat.{Flat};
 ghost use Rattle.hv_policy.specs.Result.{HasResult};
 ghost use Rattle.hv_embed.specs.Answer.{frame_of as frame_by};
 ghost use Rattle.hv_embed.specs.Effect.{is_quiet_kind};
 ghost use Rattle.hv_embed.specs.Run.{HasRun, IsAt, IsAtMore, IsLastEffect, IsRunEffect, Ran, first};
 ghost use Rattle.hv_embed.specs.Run.{output_in};
-ghost use Rattle.hv_embed.specs.Taken.{is_used_up as is_used_up_at};
+ghost use Rattle.hv_embed.specs.Taken.{MayLackMemory, is_used_up as is_used_up_at};
 ghost use Rattle.hv_embed.specs.declared.layout.TheConstants.{ELEMENT_OUTPUT};
 ghost use Rattle.hv_embed.specs.declared.status.TheConstants.{DONE, USED_UP, MEMORY};
 
@@ -60,6 +59,9 @@ pub(crate) fn step_run(
         × (done.new ≡ done.old) }
     ensures ready { result ≢ MEMORY
         → result ≡ if is_used_up_at state.old.served events.old then USED_UP else DONE }
+    ensures free { result ≡ MEMORY → is_used_up_at state.old.served events.old ≡ false }
+    ensures memory { result ≡ MEMORY → (frame_by registers.now input.now).input ≡ []
+        → MayLackMemory state.old by (frame_by registers.now input.now) }
 {
     if is_used_up(&state.machine, *events) {
         return USED_UP;
@@ -128,8 +130,8 @@ fn run_on(
     ensures count { events.new ≡ events.old + result }
     ensures stopped { IsMore (reply_of last.new output.new) → is_quiet_kind effect.new.kind ≡ true
         → at.new + ELEMENT_OUTPUT ≤ length outputs.new → is_used_up_at machine.new.served events.new ≡ false
-        → result < REPS_END → IsTrue (may_take_memory
-        (call_event by (restarted_at frame.new (next_in (reply_of last.new output.new))))) }
+        → result < REPS_END
+        → MayLackMemory machine.new by (restarted_at frame.new (next_in (reply_of last.new output.new))) }
     ensures place { at.new ≤ length outputs.old }
     ensures few { at.new ≤ at.old + ELEMENT_OUTPUT * result }
     ensures index { HasResult (reply_of last.new output.new) }

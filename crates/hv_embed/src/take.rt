@@ -1,9 +1,10 @@
 // Taking one event of a handle's machine.
-ghost use Rattle.std.specs.Prelude.{◌≡◌, ◌≢◌, ◌+◌, length, false, if◌then◌else◌};
+ghost use Rattle.std.specs.Prelude.{◌≡◌, ◌≢◌, ◌+◌, [], length, false, if◌then◌else◌};
 ghost use Rattle.hv_machine.specs.MachineInvariant.{MachineInvariant};
 ghost use Rattle.hv_policy.specs.Call.{action_of, call_event};
 ghost use Rattle.hv_embed.specs.Answer.{caller_of as caller_by, event_of as event_by, frame_of as frame_by};
-ghost use Rattle.hv_embed.specs.Taken.{IsAsBefore, IsStepped, IsTaken, is_short as is_short_len};
+ghost use Rattle.hv_embed.specs.Taken.{IsAsBefore, IsStepped, IsTaken, MayLackMemory};
+ghost use Rattle.hv_embed.specs.Taken.{is_short as is_short_len};
 ghost use Rattle.hv_embed.specs.Taken.{is_used_up as is_used_up_at, readiness};
 ghost use Rattle.hv_embed.specs.declared.status.TheConstants.{DONE, USED_UP, MEMORY};
 
@@ -73,6 +74,9 @@ pub(crate) fn step_call(
     ensures unwritten { result ≢ DONE → (reply.new ≡ reply.old) × (line.new ≡ line.old) }
     ensures ready { result ≢ MEMORY
         → result ≡ if is_used_up_at state.old.served events.old then USED_UP else DONE }
+    ensures free { result ≡ MEMORY → is_used_up_at state.old.served events.old ≡ false }
+    ensures memory { result ≡ MEMORY → (frame_by registers.now input.now).input ≡ []
+        → MayLackMemory state.old by (frame_by registers.now input.now) }
 {
     if is_used_up(&state.machine, *events) {
         return USED_UP;

@@ -34,7 +34,7 @@ returns-clause-ran c = λ f flat _.
     let says : IsAnswer c.fill_reply.new.reply (Hypercall on.new.frame) (reply_of on.new.last on.new.output) =
     subst (λ (r : Reply). IsAnswer c.fill_reply.new.reply (Hypercall on.new.frame) r) (ap (λ (bytes : List ℕ). reply_of on.new.last bytes) c.as_slice.ensures.bytes) asked in
     subst (λ (frame : Frame Global). HasRun c.args.by (first f c.args.by frame) c.args.events.now on.new.machine c.fill_reply.new.reply on.new.outputs
-    (record { events = on.result + 1; output_len = on.new.at })) c.in-Ok.ensures
+    (record { events = on.result + 1; output_len = on.new.at })) c.in-Ok.ensures.filled
     (has_run c.args.by (first f c.args.by frame) c.args.events.now on.result on.new.machine on.new.frame (reply_of on.new.last on.new.output) c.fill_reply.new.reply on.new.outputs on.new.at
     (on.ensures.ran (first f c.args.by frame) start) (omega (arith, on.ensures.place)) says
     (λ more quiet left free. on.ensures.stopped more (subst (λ (e : HvEffect). is_quiet_kind e.kind ≡ true) c.fill_reply.ensures.effect quiet) left
@@ -53,5 +53,5 @@ returns-clause-effect c = λ f flat _.
     let now : IsLastEffect on.result f c.args.by (first f c.args.by frame) on.new.effect =
     on.ensures.effect (first f c.args.by frame) f start
     (record { last = record { effect = c.in-Ok-hypercall.effect; shown = c.show.ensures; tells = taken.effect f here }; calm = calm_same f }) in
-    subst (λ (frame : Frame Global). IsRunEffect (on.result + 1) f c.args.by (first f c.args.by frame) c.fill_reply.new.reply.effect) c.in-Ok.ensures
+    subst (λ (frame : Frame Global). IsRunEffect (on.result + 1) f c.args.by (first f c.args.by frame) c.fill_reply.new.reply.effect) c.in-Ok.ensures.filled
     (record { more = on.result; counted = refl; shown = subst (λ (e : HvEffect). IsLastEffect on.result f c.args.by (first f c.args.by frame) e) (sym c.fill_reply.ensures.effect) now })
