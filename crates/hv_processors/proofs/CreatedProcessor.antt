@@ -105,5 +105,6 @@ module _ (rows : Rows PartitionState) (f : Flat) (flat : Refines rows f) (id ind
       (λ n. ap {A = FinMap nat_cmp VpState} (λ m. get m n) vps ∙ get_at-remove r.1.vps.vps index n) (λ key. get-remove pair_cmp_total f.vp (id, index) key)
       (λ sint. but_vp_there id index (here id index sint) true own f.mail) (λ place apart. but_vp_there id index place false apart f.mail))
 
-  pub removed_told : life_of f id ≡ Some Active → contains_key p.vps.vps index ≡ true → Tells (variant.Processor id index) f (record f { vp = remove f.vp (id, index); mail = mail_but_at id index f.mail })
+  pub removed_told : life_of f id ≡ Some Active → contains_key p.vps.vps index ≡ true
+      → Tells (variant.Processor id index) f (record f { vp = remove f.vp (id, index); mail = mail_but_at id index f.mail })
   removed_told active there = deleted_told f id index active (ap is_some in_flat ∙ still_there vp_row_of (get p.vps.vps index) ∙ there)
