@@ -11,7 +11,7 @@ returns-then-balance_of-need-clause-unmet g c f flags found flat =
     let of = c.args.found in
     let charge : of.need.charge ≡ 2 = ap (λ (n : Need). n.charge) found.row in
     let has = c.balance_of.ensures.available
-        ∙ found_available c.args.tree.now f flat c.args.by (CreatePartition flags) of.need of.caller.now of.target.now of.children found in
+    ∙ found_available c.args.tree.now f flat c.args.by (CreatePartition flags) of.need of.caller.now of.target.now of.children found in
     rw depth (search rules)
 
 pub returns-clause-unmet : goal.returns-clause-unmet
@@ -20,5 +20,5 @@ returns-clause-unmet g c f flags found flat =
     let of = c.args.found in
     let charge : of.need.charge ≡ 2 = ap (λ (n : Need). n.charge) found.row in
     let has = c.balance_of.ensures.available
-        ∙ found_available c.args.tree.now f flat c.args.by (CreatePartition flags) of.need of.caller.now of.target.now of.children found in
+    ∙ found_available c.args.tree.now f flat c.args.by (CreatePartition flags) of.need of.caller.now of.target.now of.children found in
     rw depth (search rules)

@@ -12,7 +12,7 @@ returns-then-balance_of-need-clause-unmet g c tree f by partition found flat =
     let of = c.args.found in
     let charge : of.need.charge ≡ 1 = ap (λ (n : Need). n.charge) found.row in
     let has = c.balance_of.ensures.available
-        ∙ found_available tree f flat by (WithdrawMemory partition) of.need of.caller.now of.target.now of.children found in
+    ∙ found_available tree f flat by (WithdrawMemory partition) of.need of.caller.now of.target.now of.children found in
     search rules
 
 pub returns-in-Some-clause-unmet : goal.returns-in-Some-clause-unmet
@@ -20,7 +20,7 @@ returns-in-Some-clause-unmet g c tree f by partition found flat =
     let of = c.args.found in
     let charge : of.need.charge ≡ 1 = ap (λ (n : Need). n.charge) found.row in
     let has = c.balance_of.ensures.available
-        ∙ found_available tree f flat by (WithdrawMemory partition) of.need of.caller.now of.target.now of.children found in
+    ∙ found_available tree f flat by (WithdrawMemory partition) of.need of.caller.now of.target.now of.children found in
     search rules
 
 pub returns-in-Some-clause-page : goal.returns-in-Some-clause-page

@@ -7,12 +7,12 @@ pub returns-then-balance_of-need-clause-unmet : goal.returns-then-balance_of-nee
 returns-then-balance_of-need-clause-unmet g c f found flat =
     let of = c.args.found in
     let has = c.balance_of.ensures.available
-        ∙ found_available c.args.tree.now f flat c.args.by (connect_with c.args.partition c.args.new) of.need of.caller.now of.target.now of.children found in
+    ∙ found_available c.args.tree.now f flat c.args.by (connect_with c.args.partition c.args.new) of.need of.caller.now of.target.now of.children found in
     search rules
 
 pub returns-clause-unmet : goal.returns-clause-unmet
 returns-clause-unmet g c f found flat =
     let of = c.args.found in
     let has = c.balance_of.ensures.available
-        ∙ found_available c.args.tree.now f flat c.args.by (connect_with c.args.partition c.args.new) of.need of.caller.now of.target.now of.children found in
+    ∙ found_available c.args.tree.now f flat c.args.by (connect_with c.args.partition c.args.new) of.need of.caller.now of.target.now of.children found in
     search rules
