@@ -1,5 +1,5 @@
 -- How many messages of a port are at a SINT, before and after a change.
-use Rattle.std.proofs.Common.{◌≡◌, ℕ, ◌+◌, cond, List, [], ◌∷◌, ◌++◌, Option, Some, None, count_by, option_map, refl, sym, ◌∙◌, zero-add, arith}
+use Rattle.std.proofs.Common.{◌≡◌, ℕ, ◌+◌, cond, List, [], ◌∷◌, Option, Some, None, count_by, refl, sym, ◌∙◌, zero-add, arith}
 use Rattle.std.proofs.lemmas.List.Sums.{sum_by-cons, sum_by_push}
 use Rattle.hv_mail.specs.Mail.{SintMail, count_at, count_shown, is_of, show_next, with_next, with_last, posted, cleared}
 use Rattle.hv_mail.specs.Tally.{one_at}
