@@ -1,6 +1,6 @@
 -- What all slots together tell of the processors: the lowest that meets a test, and how many messages of a port they have.
-use Rattle.std.proofs.Common.{◌≡◌, ℕ, ◌+◌, ◌≤◌, ◌==◌, min, Bool, true, false, cond, List, [], ◌∷◌, Option, None, Some, arith, inl, inr, length, refl, sym, ap, subst, ◌∙◌, find, map as list_map}
-use Rattle.std.proofs.Common.{filter, fold, sum_by, option_map, nat_cmp, eq-eqb, eqb-true}
+use Rattle.std.proofs.Common.{◌≡◌, ℕ, zero, suc, ◌+◌, ◌≤◌, ◌==◌, min, Bool, true, false, cond, List, [], ◌∷◌, Option, None, Some, arith, inl, inr, length, refl, sym, ap, subst, ◌∙◌, find, map as list_map}
+use Rattle.std.proofs.Common.{filter, fold, sum_by, take, option_map, nat_cmp, eq-eqb, eqb-true}
 use Rattle.std.specs.Cmp.{nat_cmp_total}
 use Rattle.std.specs.FinMap as map
 use Rattle.std.specs.FinMap.{FinMap, entries, from_entries, get, insert, get-from_entries, get-insert, len-empty, len-entries}
@@ -16,6 +16,13 @@ use Rattle.hv_vp.proofs.Slots.{absent}
 use Rattle.hv_vp.specs.Vp.{VpState}
 use Rattle.hv_vp.specs.Vps.{AreDistinct, entries_of, kept_by_all, lowest, vps_of}
 use Rattle.hv_vp.specs.declared.vps.Slot.{Slot}
+
+-- the sum over as many of the first elements as there are is the whole sum
+pub sum_all : {X : Type 0} (f : X → ℕ) (xs : List X) (n : ℕ) → length xs ≤ n → sum_by f (take n xs) ≡ sum_by f xs
+sum_all f [] zero past = refl
+sum_all f [] (suc n) past = refl
+sum_all f (x ∷ xs) zero past = absurd (omega (arith, past))
+sum_all f (x ∷ xs) (suc n) past = sum_by-cons f x (take n xs) ∙ ap (λ k. f x + k) (sum_all f xs n (omega (arith, past))) ∙ sym (sum_by-cons f x xs)
 
 -- the first slot's processor joins those of the others
 module _ {A : Type 0} (slot : Slot A) (slots : List (Slot A)) where

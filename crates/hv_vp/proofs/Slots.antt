@@ -1,5 +1,5 @@
 -- Slots with their keys, as a map.
-use Rattle.std.proofs.Common.{◌≡◌, ℕ, zero, suc, ◌+◌, ◌<◌, false, cond, Bool, ◌==◌, List, [], ◌∷◌, ◌++◌, length, get_or, set as list_set, None, Some, arith, inl, inr, sym, refl, ap, ◌∙◌}
+use Rattle.std.proofs.Common.{◌≡◌, ℕ, zero, suc, ◌+◌, ◌<◌, false, cond, Bool, ◌==◌, List, [], ◌∷◌, ◌++◌, length, get_or, set as list_set, Option, None, Some, IfSome, arith, inl, inr, sym, refl, ap, ◌∙◌}
 use Rattle.std.specs.Prelude.{map as list_map, nat_eq, remove}
 use Rattle.std.specs.Ordering.{nat_cmp, eq_by_cmp}
 use Rattle.std.specs.Cmp.{nat_cmp_total}
@@ -36,6 +36,21 @@ module _ {S X : Type 0} (key : S → ℕ) (val : S → X) where
             let later = slot_at q ss (i + 1) p d (rw (ne_eqb (key s) q apart) at e) in
             (suc later.0, omega (arith, later.1), omega (arith, later.2), rw (tied_apart q (key s) apart) later.3, later.4)
       ]
+
+  -- a scan that finds a slot finds one of them
+  scan_below : (q : ℕ) (slots : List S) (i p : ℕ) → position_from (here q) i slots ≡ Some p → p < i + length slots
+  scan_below q [] i p e = absurd (none-some p e)
+  scan_below q (s ∷ ss) i p e =
+      elim (cases_eq (key s) q) [
+        | inl is ↦
+            let same : Some i ≡ Some p = rw (eq-eqb (key s) q is) at e in
+            omega (arith, same_Some i p same)
+        | inr apart ↦ omega (arith, scan_below q ss (i + 1) p (rw (ne_eqb (key s) q apart) at e))
+      ]
+
+  pub scan_within : (q : ℕ) (slots : List S) (found : Option ℕ) → found ≡ position_from (here q) 0 slots → IfSome found (λ p. p < length slots)
+  scan_within q slots None is = _
+  scan_within q slots (Some p) is = omega (arith, scan_below q slots 0 p (sym is))
 
   -- a scan that finds none tells that no slot has the key
   pub no_slot : (q : ℕ) (slots : List S) (i : ℕ) → position_from (here q) i slots ≡ None → find nat_cmp q (entries slots) ≡ None

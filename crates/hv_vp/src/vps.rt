@@ -160,6 +160,13 @@ fn place_of<A: Allocator>(slots: &[Slot<A>], index: u32) -> Option<usize>
     if guess < slots.len() && slots[guess].index == index {
         return Some(guess);
     }
+    scan(slots, index)
+}
+
+// The place of a processor, by a look at each.
+fn scan<A: Allocator>(slots: &[Slot<A>], index: u32) -> Option<usize>
+    ensures { result ≡ position_from (λ slot. slot.index == index) 0 slots.now }
+{
     slots.iter().position(|slot| slot.index == index)
 }
 
