@@ -12,10 +12,10 @@
 #include <string.h>
 #include <time.h>
 
-enum { TURNS = 20000, RUNS = 5, EACH = 8, OWN = 1 };
+enum { TURNS = 5000, RUNS = 20, EACH = 8, OWN = 1 };
 
 static const hvpm_caller root = {1, 0};
-static hvpm_machine machine;
+static hvpm_machine machines[4], *machine;
 static hvpm_reply reply;
 static bool failed;
 
@@ -29,7 +29,7 @@ static void put_number(uint8_t *at, uint64_t value, size_t len) {
 
 static void call(uint64_t rcx, const void *input, size_t len) {
     const hvpm_registers registers = {rcx, 0, 0};
-    want(hvpm_hypercall(&machine, root, &registers, input, len, &reply, NULL, 0));
+    want(hvpm_hypercall(machine, root, &registers, input, len, &reply, NULL, 0));
 }
 
 /* A port for messages at a SINT of the root's processor, and a connection to it of that id. */
@@ -51,7 +51,7 @@ static void post(uint64_t id) {
 
 /* Serves calls for the caller's id until the next event's number is a multiple. */
 static void wait_for(uint64_t multiple) {
-    while ((machine.events + 1) % multiple != 0 && !failed) call(0x46, NULL, 0);
+    while ((machine->events + 1) % multiple != 0 && !failed) call(0x46, NULL, 0);
 }
 
 static uint64_t rising(uint64_t i, uint64_t count) {
@@ -89,11 +89,11 @@ static const struct choice {
 /* Boots a machine whose root's processor keeps this many messages. */
 static void fill(const struct choice *choice, uint64_t kept) {
     const hvpm_config config = {.mask = 0xf700000044, .pages = 65536, .pool = 60000, .vps = 1};
-    machine = (hvpm_machine)HVPM_EMPTY;
-    if (hvpm_boot(&machine, &config) != HVPM_STATUS_OK) failed = true;
+    *machine = (hvpm_machine)HVPM_EMPTY;
+    if (hvpm_boot(machine, &config) != HVPM_STATUS_OK) failed = true;
     for (uint32_t msr = 0x40000080; msr <= 0x40000083; msr++)
-        if (msr != 0x40000081) want(hvpm_write_msr(&machine, root, msr, 1, &reply, NULL, 0));
-    want(hvpm_write_msr(&machine, root, 0x40000092, 0x30, &reply, NULL, 0));
+        if (msr != 0x40000081) want(hvpm_write_msr(machine, root, msr, 1, &reply, NULL, 0));
+    want(hvpm_write_msr(machine, root, 0x40000092, 0x30, &reply, NULL, 0));
     make_port(OWN, 2);
     for (uint64_t i = 0; i < kept / EACH && !failed; i++) {
         const uint64_t id = choice->id(i, kept / EACH);
@@ -108,8 +108,8 @@ static double measure(void) {
     clock_gettime(CLOCK_PROCESS_CPUTIME_ID, &start);
     for (int i = 0; i < TURNS && !failed; i++) {
         post(OWN);
-        want(hvpm_clear_slot(&machine, root, 2, &reply, NULL, 0));
-        want(hvpm_write_msr(&machine, root, 0x40000084, 0, &reply, NULL, 0));
+        want(hvpm_clear_slot(machine, root, 2, &reply, NULL, 0));
+        want(hvpm_write_msr(machine, root, 0x40000084, 0, &reply, NULL, 0));
     }
     clock_gettime(CLOCK_PROCESS_CPUTIME_ID, &end);
     return ((double)(end.tv_sec - start.tv_sec) * 1e9 + (double)(end.tv_nsec - start.tv_nsec)) / TURNS;
@@ -119,21 +119,24 @@ int main(void) {
     static const uint64_t kept[] = {8, 800, 8000, 32000};
     enum { SIZES = sizeof kept / sizeof *kept };
     bool slow = false;
-    printf("%-36s", "ns of a turn, least of 5; kept");
+    printf("%-36s", "a turn, least of 20");
     for (int size = 0; size < SIZES; size++) printf(" %8" PRIu64, kept[size]);
+    printf(" kept");
     for (size_t i = 0; i < sizeof choices / sizeof *choices; i++) {
-        double least[SIZES];
+        double least[SIZES] = {1e9, 1e9, 1e9, 1e9};
         printf("\n%-36s", choices[i].name);
-        for (int size = 0; size < SIZES; size++) {
-            least[size] = 1e9;
-            fill(&choices[i], kept[size]);
-            for (int run = 0; run < RUNS; run++) {
-                const double taken = measure();
-                if (taken < least[size]) least[size] = taken;
-            }
-            hvpm_destroy(&machine);
-            printf(" %8.0f", least[size]);
+        for (int size = 0; size < SIZES; size++) machine = &machines[size], fill(&choices[i], kept[size]);
+        for (int run = 0; run < RUNS * SIZES; run++) {
+            const int size = run % SIZES;
+            machine = &machines[size];
+            const double taken = measure();
+            if (taken < least[size]) least[size] = taken;
         }
+        for (int size = 0; size < SIZES; size++) {
+            printf(" %8.0f", least[size]);
+            hvpm_destroy(&machines[size]);
+        }
+        printf(" ns");
         if (least[SIZES - 1] > 2 * least[0]) slow = true;
     }
     printf("\n%s%s", failed ? "an event wasn't served\n" : "", slow ? "the time grows with the messages\n" : "");

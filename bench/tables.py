@@ -36,6 +36,7 @@ LARGEST = {
     "reps": "rep calls of 255 elements that read registers",
     "messages": "messages posted, read and cleared",
     "partitions": "partitions created and deleted",
+    "queues": "1,000 ports filled with messages, which are ended",
     "processors": "lines that each name another VP, 64 in a phase",
 }
 EMBED = {
