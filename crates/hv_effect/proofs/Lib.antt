@@ -1,4 +1,5 @@
 pub mod EndOfMessage
+pub mod OneKind
 pub mod PagesAndVps
 pub mod PostEffect
 pub mod ProcessorChange

@@ -26,9 +26,13 @@ not_longer [] row same = cc
 not_longer (first ∷ rows) row same = not_longer rows row (cc)
 
 -- no Boolean is its opposite
-not_opposite : (b : Bool) → b ≡ not b → ⊥
+pub not_opposite : (b : Bool) → b ≡ not b → ⊥
 not_opposite true same = cc
 not_opposite false same = cc
+
+-- a partition's page is no page of another one
+pub own_page : (from to : ℕ) (row : Option PageRow) → was_of from row ≡ true → row ≡ Some (record { owner = to; pooled = false }) → from ≡ to
+own_page from to row was now = sym (eqb-true to from (sym (ap (was_of from) now) ∙ was))
 
 module _ (f g : Flat) (same : LeavesUnnamed variant.Nothing f g) where
   -- at a processor then nothing is named but raised vectors
@@ -60,10 +64,6 @@ module _ (f g : Flat) (same : LeavesUnnamed variant.Nothing f g) where
     names_none =
         (λ i. (not (no_mask s.shown (λ k. none_shown k (has_bit s.shown k) refl) i) || none_waits s.waiting refl i)
         || (none_turned s.flag refl i || none_taken s.taken refl i))
-
-  -- a partition's page is no page of another one
-  own_page : (from to : ℕ) (row : Option PageRow) → was_of from row ≡ true → row ≡ Some (record { owner = to; pooled = false }) → from ≡ to
-  own_page from to row was now = sym (eqb-true to from (sym (ap (was_of from) now) ∙ was))
 
   pub untold_unchanged : (e : Effect) → Tells e f g → e ≡ variant.Nothing
   untold_unchanged variant.Nothing t = refl

@@ -1,3 +1,4 @@
 pub mod Effect
 pub mod Ended
+pub mod Kind
 pub mod Raised

@@ -2,6 +2,7 @@
 ghost use Rattle.std.specs.Prelude.{◌≡◌};
 ghost use Rattle.hv_policy.specs.Flat.{Flat};
 ghost use Rattle.hv_effect.specs.Effect.{LeavesUnnamed, Tells};
+ghost use Rattle.hv_effect.specs.Kind.{kind_of};
 ghost use Rattle.hv_effect.specs.declared.effect.Effect.{Effect as EffectOf};
 ghost use Rattle.hv_effect.specs.declared.effect.Effect.TheVariants as effect;
 
@@ -12,4 +13,14 @@ ghost use Rattle.hv_effect.specs.declared.effect.Effect.TheVariants as effect;
 pub fn nothing_is_told_of_no_change()
     ensures { (f g : Flat) (told : EffectOf) → Tells told f g → LeavesUnnamed effect.Nothing f g
         → told ≡ effect.Nothing }
+{}
+
+/// Each change has effects of one kind alone.
+///
+/// For example, an effect that describes the finalizing of a partition with one processor is `Partition`, and
+/// never `Processor`.
+#[tactic(auto, using(crate::proofs::OneKind::one_kind))]
+pub fn each_change_has_one_kind_of_effect()
+    ensures { (f g : Flat) (told other : EffectOf) → Tells told f g → Tells other f g
+        → kind_of told ≡ kind_of other }
 {}

@@ -10,4 +10,4 @@ mod effect;
 mod law;
 
 pub use effect::{Effect, FlagChange, Synic};
-pub use law::nothing_is_told_of_no_change;
+pub use law::{each_change_has_one_kind_of_effect, nothing_is_told_of_no_change};
