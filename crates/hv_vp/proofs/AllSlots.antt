@@ -1,5 +1,6 @@
 -- What all slots together tell of the processors: the lowest that meets a test, and how many messages of a port they have.
-use Rattle.std.proofs.Common.{◌≡◌, ℕ, zero, suc, ◌+◌, ◌≤◌, ◌==◌, min, Bool, true, false, cond, List, [], ◌∷◌, Option, None, Some, arith, inl, inr, length, refl, sym, ap, subst, ◌∙◌, find, map as list_map}
+use Rattle.std.proofs.Common.{◌≡◌, ℕ, zero, suc, ◌+◌, ◌≤◌, ◌==◌, min, Bool, true, false, cond, List, [], ◌∷◌, Option, None, Some, arith, inl, inr, length, refl, sym, ap, subst, ◌∙◌, find}
+use Rattle.std.proofs.Common.{map as list_map}
 use Rattle.std.proofs.Common.{filter, fold, sum_by, take, option_map, nat_cmp, eq-eqb, eqb-true}
 use Rattle.std.specs.Cmp.{nat_cmp_total}
 use Rattle.std.specs.FinMap as map
@@ -51,12 +52,14 @@ no_entries A (e ∷ es) is =
     absurd (omega arith)
 
 -- the messages of a port, slot by slot and over all processors
-pub kept_in_all : {A : Type 0} (port born : ℕ) (slots : List (Slot A)) → AreDistinct slots → sum_by (λ slot. count_of port born slot.vp.mail) slots ≡ kept_by_all port born (vps_of slots)
+pub kept_in_all : {A : Type 0} (port born : ℕ) (slots : List (Slot A)) → AreDistinct slots
+    → sum_by (λ slot. count_of port born slot.vp.mail) slots ≡ kept_by_all port born (vps_of slots)
 kept_in_all {A} port born [] distinct = sym (ap (sum_by (λ (e : ℕ × VpState). count_of port born e.1.mail)) (no_entries A (entries (vps_of {A = A} [])) refl))
 kept_in_all port born (slot ∷ slots) distinct =
     sum_by-cons (λ slot. count_of port born slot.vp.mail) slot slots
     ∙ ap (λ n. count_of port born slot.vp.mail + n) (kept_in_all port born slots (others slot slots distinct))
-    ∙ sym (ap (kept_by_all port born) (joined slot slots) ∙ sum-insert (λ e. count_of port born e.1.mail) (vps_of slots) slot.index slot.vp (fresh slot slots distinct))
+    ∙ sym (ap (kept_by_all port born) (joined slot slots) ∙ sum-insert (λ e. count_of port born e.1.mail) (vps_of slots) slot.index slot.vp
+    (fresh slot slots distinct))
 
 fold_min : (k x : ℕ) (xs : List ℕ) → fold min (min k x) xs ≡ min k (fold min x xs)
 fold_min k x [] = refl
@@ -89,7 +92,8 @@ module _ (test : VpState → Bool) where
       by (Some c) is =
           let (there, passes) = found_row (λ e. test e.1) vps c is in (
             (c.1, there, passes),
-            λ q w at own. (let (d, found, le) = found_least (λ e. test e.1) vps q w at own in let same : d.0 ≡ c.0 = (let one : d ≡ c = cc in ap (λ e. e.0) one) in omega
+            λ q w at own. (let (d, found, le) = found_least (λ e. test e.1) vps q w at own in let same : d.0 ≡ c.0 = (let one : d ≡ c = cc in ap
+                (λ e. e.0) one) in omega
                 (arith, same, le)),
           )
 
@@ -108,7 +112,8 @@ module _ (test : VpState → Bool) where
     here = get_at-insert vps k v k ∙ ap (λ b. cond b (Some v) (get vps k)) (eq-eqb k k refl)
 
     -- a processor of all is the one that joined or one of the others
-    split : (P : ℕ → VpState → Type 0) → P k v → ((q : ℕ) (w : VpState) → get vps q ≡ Some w → P q w) → (q : ℕ) (w : VpState) → get (insert vps k v) q ≡ Some w → P q w
+    split : (P : ℕ → VpState → Type 0) → P k v → ((q : ℕ) (w : VpState) → get vps q ≡ Some w → P q w) → (q : ℕ) (w : VpState) → get (insert vps k v) q ≡ Some w
+        → P q w
     split P own rest q w there = by (q == k) refl (sym (get_at-insert vps k v q) ∙ there)
       where
         by : (b : Bool) → q == k ≡ b → cond b (Some v) (get vps q) ≡ Some w → P q w
@@ -127,7 +132,11 @@ module _ (test : VpState → Bool) where
         by false is = there
 
     lowest_with : (b : Bool) (o : Option ℕ) → test v ≡ b → IsLowest vps o → IsLowest (insert vps k v) (cond b (Some (lower k o)) o)
-    lowest_with true None is low = ((v, here, is), split (λ q w. test w ≡ true → k ≤ q) (λ _. omega arith) (λ q w there passes. (let fails = low q w there in cc)))
+    lowest_with true None is low = (
+      (v, here, is),
+      split (λ q w. test w ≡ true → k ≤ q) (λ _. omega arith)
+          (λ q w there passes. (let fails = low q w there in cc)),
+    )
     lowest_with true (Some j) is low = elim (cases_lt j k) [
       | inl lt ↦
           let least : min k j ≡ j = omega (arith, lt) in
@@ -135,8 +144,11 @@ module _ (test : VpState → Bool) where
           ((low.0.0, still j low.0.0 low.0.1, low.0.2), split (λ q w. test w ≡ true → j ≤ q) (λ _. omega (arith, lt)) low.1)
       | inr le ↦
           let least : min k j ≡ k = omega (arith, le) in
-          subst (λ n. IsLowest (insert vps k v) (Some n)) (sym least)
-          ((v, here, is), split (λ q w. test w ≡ true → k ≤ q) (λ _. omega arith) (λ q w there passes. (let far = low.1 q w there passes in omega (arith, far, le))))
+          subst (λ n. IsLowest (insert vps k v) (Some n)) (sym least) (
+            (v, here, is),
+            split (λ q w. test w ≡ true → k ≤ q) (λ _. omega arith)
+                (λ q w there passes. (let far = low.1 q w there passes in omega (arith, far, le))),
+          )
     ]
     lowest_with false None is low = split (λ q w. test w ≡ false) is low
     lowest_with false (Some j) is low = ((low.0.0, still j low.0.0 low.0.1, low.0.2), split (λ q w. test w ≡ true → j ≤ q) (λ passes. cc) low.1)
@@ -145,13 +157,17 @@ module _ (test : VpState → Bool) where
     joining = only (insert vps k v) _ _ (tells (insert vps k v)) (lowest_with (test v) (lowest test vps) refl (tells vps))
 
   -- the lowest index of the slots whose processors meet the test
-  pub lowest_in_all : {A : Type 0} (slots : List (Slot A)) → AreDistinct slots → reduce min (list_map (λ slot. slot.index) (filter (λ slot. test slot.vp) slots)) ≡ lowest test (vps_of slots)
-  lowest_in_all {A} [] distinct = sym (ap (λ (es : List (ℕ × VpState)). option_map (λ e. e.0) (find (λ e. test e.1) es)) (no_entries A (entries (vps_of {A = A} [])) refl))
+  pub lowest_in_all : {A : Type 0} (slots : List (Slot A)) → AreDistinct slots
+      → reduce min (list_map (λ slot. slot.index) (filter (λ slot. test slot.vp) slots)) ≡ lowest test (vps_of slots)
+  lowest_in_all {A} [] distinct = sym (ap (λ (es : List (ℕ × VpState)). option_map (λ e. e.0) (find (λ e. test e.1) es))
+      (no_entries A (entries (vps_of {A = A} [])) refl))
   lowest_in_all (slot ∷ slots) distinct = by (test slot.vp) refl (lowest_in_all slots (others slot slots distinct)) ∙ sym
       (ap (lowest test) (joined slot slots) ∙ joining (vps_of slots) slot.index slot.vp (fresh slot slots distinct))
     where
-      by : (b : Bool) → test slot.vp ≡ b → reduce min (list_map (λ slot. slot.index) (filter (λ slot. test slot.vp) slots)) ≡ lowest test (vps_of slots) → reduce min
-          (list_map (λ slot. slot.index) (cond (test slot.vp) (slot ∷ filter (λ slot. test slot.vp) slots) (filter (λ slot. test slot.vp) slots))) ≡ cond (test slot.vp)
+      by : (b : Bool) → test slot.vp ≡ b → reduce min (list_map (λ slot. slot.index) (filter (λ slot. test slot.vp) slots)) ≡ lowest test (vps_of slots)
+          → reduce min
+          (list_map (λ slot. slot.index) (cond (test slot.vp) (slot ∷ filter (λ slot. test slot.vp) slots) (filter (λ slot. test slot.vp) slots))) ≡ cond
+          (test slot.vp)
           (Some (lower slot.index (lowest test (vps_of slots)))) (lowest test (vps_of slots))
       by true is rest = rw is (reduced slot.index _ ∙ ap (λ o. Some (lower slot.index o)) rest)
       by false is rest = rw is rest

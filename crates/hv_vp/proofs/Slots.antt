@@ -1,5 +1,6 @@
 -- Slots with their keys, as a map.
-use Rattle.std.proofs.Common.{◌≡◌, ℕ, zero, suc, ◌+◌, ◌<◌, false, cond, Bool, ◌==◌, List, [], ◌∷◌, ◌++◌, length, get_or, set as list_set, Option, None, Some, IfSome, arith, inl, inr, sym, refl, ap, ◌∙◌}
+use Rattle.std.proofs.Common.{◌≡◌, ℕ, zero, suc, ◌+◌, ◌<◌, false, cond, Bool, ◌==◌, List, [], ◌∷◌, ◌++◌, length, get_or, set as list_set, Option, None, Some, IfSome, arith, inl, inr, sym, refl}
+use Rattle.std.proofs.Common.{ap, ◌∙◌}
 use Rattle.std.specs.Prelude.{map as list_map, nat_eq, remove}
 use Rattle.std.specs.Ordering.{nat_cmp, eq_by_cmp}
 use Rattle.std.specs.Cmp.{nat_cmp_total}
@@ -69,7 +70,8 @@ module _ {S X : Type 0} (key : S → ℕ) (val : S → X) where
         | inr other ↦ rw (tied_apart q (key s) other) (absent q ss apart.1)
       ]
 
-  apart_at : (q : ℕ) (slots : List S) (k : ℕ) (d : S) → AllByRecursion (λ y. nat_eq q y ≡ false) (keys slots) → k < length slots → key (get_or slots k d) ≡ q → ⊥
+  apart_at : (q : ℕ) (slots : List S) (k : ℕ) (d : S) → AllByRecursion (λ y. nat_eq q y ≡ false) (keys slots) → k < length slots → key (get_or slots k d) ≡ q
+      → ⊥
   apart_at q [] k d apart below is = omega (arith, below)
   apart_at q (s ∷ ss) zero d apart below is = differ q (key s) apart.0 is
   apart_at q (s ∷ ss) (suc k) d apart below is = apart_at q ss k d apart.1 (omega (arith, below)) is
