@@ -79,8 +79,8 @@ const GROWTHS: [(Growth, u64); 28] = [
     (Growth::Run, 0),
     // The list of queues grows to 16, and each queue gets its room. Then come a message and a count.
     (Growth::Mail, 21),
-    // A message, and only the ring that is full grows.
-    (Growth::ThirdMessage, 2),
+    // A message. The ring has room since its second one.
+    (Growth::ThirdMessage, 1),
     (Growth::Ports, 1),
     (Growth::Connections, 1),
     (Growth::Processor, 1),
