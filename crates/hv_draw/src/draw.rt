@@ -1,8 +1,9 @@
 // Drawing a script, from its bytes to the exit status.
-ghost use Rattle.std.specs.Prelude.{◌≡◌, ◌≢◌, IfErr, IfOk, IsOk, OnOk};
+ghost use Rattle.std.specs.Prelude.{◌≡◌, ◌≢◌, IfErr, IfOk, IsOk, None, OnOk};
 ghost use Rattle.std.specs.Io.KnownBytes.{Appends, Keeps};
 ghost use Rattle.hv_history.specs.Kept.{IsRun};
-ghost use Rattle.hv_run.specs.Failure.{exit_of};
+ghost use Rattle.hv_policy.specs.BootFault.{boot_fault};
+ghost use Rattle.hv_run.specs.Failure.{CanRun, exit_of};
 ghost use Rattle.hv_script.specs.Reading.{said};
 ghost use Rattle.hv_draw.specs.Drawn.{HasDrawn, HasDrawnOf, HasGraph, IsGraph};
 
@@ -33,6 +34,7 @@ pub fn draw_text<W: Write, E: Write>(
 ) -> Exit
     ensures drawn { result ≡ Exit.Done → HasDrawnOf script.now at (W.contents out.old) (W.contents out.new) }
     ensures silent { result ≡ Exit.Script → out.new ≡ out.old }
+    ensures faulty { result ≡ Exit.Script → CanRun script.now → ⊥ }
     ensures no_usage { result ≢ Exit.Usage }
 {
     match parse(alloc, script) {
@@ -51,6 +53,7 @@ fn draw_or_tell<W: Write, E: Write>(
 ) -> Exit
     ensures drawn { result ≡ Exit.Done → HasDrawn (said script) at (W.contents out.old) (W.contents out.new) }
     ensures silent { result ≡ Exit.Script → out.new ≡ out.old }
+    ensures faulty { result ≡ Exit.Script → boot_fault script.config ≡ None → ⊥ }
     ensures no_usage { result ≢ Exit.Usage }
 {
     match draw_script(alloc, script, at, out) {
@@ -68,6 +71,8 @@ fn draw_script<W: Write>(
 ) -> Result<(), Failure>
     ensures drawn { OnOk result (HasDrawn (said script) at (W.contents out.old) (W.contents out.new)) }
     ensures silent { IfErr result (λ failure. exit_of failure ≡ Exit.Script → out.new ≡ out.old) }
+    ensures faulty { IfErr result (λ failure. exit_of failure ≡ Exit.Script
+        → boot_fault script.config ≡ None → ⊥) }
 {
     let Script {
         config,

@@ -1,6 +1,6 @@
 // Drawing the run of a script as a sequence chart, from its bytes to the exit status.
 ghost use Rattle.std.specs.Prelude.{◌≡◌, ◌≢◌, IfErr, IfOk, OnOk};
-ghost use Rattle.hv_run.specs.Failure.{exit_of};
+ghost use Rattle.hv_run.specs.Failure.{CanRun, exit_of};
 ghost use Rattle.hv_draw.specs.Sequence.{HasChart, HasSequence, IsChart};
 
 use crate::chart::Chart;
@@ -23,6 +23,7 @@ pub fn sequence_text<W: Write, E: Write>(
 ) -> Exit
     ensures drawn { result ≡ Exit.Done → HasSequence script.now (W.contents out.old) (W.contents out.new) }
     ensures silent { result ≡ Exit.Script → out.new ≡ out.old }
+    ensures faulty { result ≡ Exit.Script → CanRun script.now → ⊥ }
     ensures no_usage { result ≢ Exit.Usage }
 {
     let mut chart = Chart::new(alloc);

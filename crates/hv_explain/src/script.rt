@@ -1,6 +1,7 @@
 // A script's text, from its first line to an exit status.
-ghost use Rattle.std.specs.Prelude.{◌≡◌, ◌≢◌, ◌<◌, length, IfErr, OnOk};
-ghost use Rattle.hv_run.specs.Failure.{exit_of};
+ghost use Rattle.std.specs.Prelude.{◌≡◌, ◌≢◌, ◌<◌, length, IfErr, None, OnOk};
+ghost use Rattle.hv_policy.specs.BootFault.{boot_fault};
+ghost use Rattle.hv_run.specs.Failure.{CanRun, exit_of};
 ghost use Rattle.hv_script.specs.Reading.{said};
 ghost use Rattle.hv_script.specs.declared.script.TheConstants.{MOST_BYTES as MOST};
 ghost use Rattle.hv_explain.specs.Written.{HasExplained, HasExplainedText, explains};
@@ -29,6 +30,7 @@ pub fn explain_text<W: Write, E: Write>(
         (W.contents out.new) }
     ensures long { MOST < length script.now → result ≡ Exit.Script }
     ensures silent { result ≡ Exit.Script → out.new ≡ out.old }
+    ensures faulty { result ≡ Exit.Script → CanRun script.now → ⊥ }
     ensures no_usage { result ≢ Exit.Usage }
 {
     explain_with(alloc, &mut Explainer::new(), script, out, err)
@@ -48,6 +50,7 @@ pub fn explain_with<T: Teller, W: Write, E: Write>(
         (W.contents out.new) }
     ensures long { MOST < length script.now → result ≡ Exit.Script }
     ensures silent { result ≡ Exit.Script → out.new ≡ out.old }
+    ensures faulty { result ≡ Exit.Script → CanRun script.now → ⊥ }
     ensures no_usage { result ≢ Exit.Usage }
 {
     match parse(alloc, script) {
@@ -67,6 +70,7 @@ fn explain_or_tell<T: Teller, W: Write, E: Write>(
     ensures told { result ≡ Exit.Done → HasExplained T.tells (said script) (W.contents out.old)
         (W.contents out.new) }
     ensures silent { result ≡ Exit.Script → out.new ≡ out.old }
+    ensures faulty { result ≡ Exit.Script → boot_fault script.config ≡ None → ⊥ }
     ensures no_usage { result ≢ Exit.Usage }
 {
     match explain_script(alloc, teller, &script, out) {
@@ -85,6 +89,8 @@ fn explain_script<T: Teller, W: Write>(
     ensures told { OnOk result (HasExplained T.tells (said script.now) (W.contents out.old)
         (W.contents out.new)) }
     ensures silent { IfErr result (λ failure. exit_of failure ≡ Exit.Script → out.new ≡ out.old) }
+    ensures faulty { IfErr result (λ failure. exit_of failure ≡ Exit.Script
+        → boot_fault script.now.config ≡ None → ⊥) }
 {
     let mut kept = Kept::boot(alloc, script.config, script.limit)?;
     let told = explain_lines(&mut kept, script.lines.as_slice(), None, teller, out);

@@ -1,5 +1,10 @@
 -- Which failure a script's error is, and the exit status of each.
-use Rattle.std.specs.Prelude.{◌≡◌, ◌⊎◌, ℕ}
+use Rattle.std.specs.Prelude.{◌≡◌, ◌⊎◌, ℕ, List, Ok, None}
+use Rattle.std.specs.declared.alloc.Global.{Global}
+use Rattle.hv_policy.specs.BootFault.{boot_fault}
+use Rattle.hv_policy.specs.declared.config.BootRefused.{BootRefused}
+use Rattle.hv_policy.specs.declared.config.BootRefused.TheVariants as boot
+use Rattle.hv_script.specs.Script.{Said, script_of}
 use Rattle.hv_script.specs.declared.fault.FaultKind.{FaultKind}
 use Rattle.hv_script.specs.declared.fault.FaultKind.TheVariants.{Memory}
 use Rattle.hv_script.specs.declared.fault.ScriptFault.{ScriptFault}
@@ -35,6 +40,19 @@ failure_at line kind = failure.Fault line kind
 
 abbrev pub failure_of : ScriptFault → Failure
 failure_of fault = failure_at fault.line fault.kind
+
+-- the failure of a boot that is refused
+abbrev pub failure_of_boot : BootRefused → Failure
+failure_of_boot boot.Pages = failure.Pages
+failure_of_boot boot.Pool = failure.Pool
+failure_of_boot boot.Vps = failure.Vps
+failure_of_boot boot.Memory = failure.Memory
+
+-- a text is a script without a fault, and its machine boots
+pub record CanRun (text : List ℕ) : Type 0 where
+  pub said : Said Global
+  pub is : script_of text ≡ Ok said
+  pub boots : boot_fault said.config ≡ None
 
 -- the script can't be read, or there is no memory for it
 abbrev pub IsUnread : Failure → Type 0

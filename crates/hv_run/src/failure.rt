@@ -82,6 +82,10 @@ impl Failure {
 }
 
 impl From<BootRefused> for Failure {
+    ghost use Rattle.hv_run.specs.Failure.{failure_of_boot};
+
+    ghost from_gives = { λ refused failure. failure ≡ failure_of_boot refused };
+
     fn from(refused: BootRefused) -> Failure {
         match refused {
             BootRefused::Pages => Failure::Pages,

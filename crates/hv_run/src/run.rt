@@ -3,7 +3,7 @@ ghost use Rattle.std.specs.Prelude.{◌≡◌, ◌≢◌, ◌<◌, length, Err, 
 ghost use Rattle.std.specs.Io.KnownBytes.{Appends};
 ghost use Rattle.hv_history.specs.Kept.{IsRun};
 ghost use Rattle.hv_script.specs.declared.script.TheConstants.{MOST_BYTES as MOST};
-ghost use Rattle.hv_run.specs.Failure.{exit_of, failure_by};
+ghost use Rattle.hv_run.specs.Failure.{CanRun, exit_of, failure_by};
 ghost use Rattle.hv_run.specs.Written.{HasPart, HasWritten, HasWrittenPart, told_by};
 
 use crate::failure::{Exit, Failure, tell};
@@ -37,6 +37,7 @@ pub fn run_text<T: Threads + Wait + Sync, W: Write, E: Write>(
         (W.contents out.old) (W.contents out.new) }
     ensures long { MOST < length script.now → result ≡ Exit.Script }
     ensures silent { result ≡ Exit.Script → out.new ≡ out.old }
+    ensures faulty { result ≡ Exit.Script → CanRun script.now → ⊥ }
     ensures no_usage { result ≢ Exit.Usage }
 {
     run_gated(rt, alloc, script, options, &Open, out, err)
@@ -60,6 +61,7 @@ pub fn run_gated<T: Threads + Wait + Sync, G: Gate, W: Write, E: Write>(
         (W.contents out.old) (W.contents out.new) }
     ensures long { MOST < length script.now → result ≡ Exit.Script }
     ensures silent { result ≡ Exit.Script → out.new ≡ out.old }
+    ensures faulty { result ≡ Exit.Script → CanRun script.now → ⊥ }
     ensures no_usage { result ≢ Exit.Usage }
 {
     match run_script(rt, alloc, script, options, gate, out) {
@@ -83,6 +85,7 @@ fn run_script<T: Threads + Wait + Sync, G: Gate, W: Write>(
         (W.contents out.new)) }
     ensures long { MOST < length script.now → result ≡ Err (Failure.Fault 0 FaultKind.Long) }
     ensures silent { IfErr result (λ failure. exit_of failure ≡ Exit.Script → out.new ≡ out.old) }
+    ensures faulty { IfErr result (λ failure. exit_of failure ≡ Exit.Script → CanRun script.now → ⊥) }
 {
     let Script {
         config,

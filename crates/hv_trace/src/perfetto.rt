@@ -1,6 +1,7 @@
 // Charting a script, from its text to an exit status.
-ghost use Rattle.std.specs.Prelude.{◌≡◌, ◌≢◌, IsOk, OnOk};
+ghost use Rattle.std.specs.Prelude.{◌≡◌, ◌≢◌, IfErr, IsOk, OnOk};
 ghost use Rattle.std.specs.Io.KnownBytes.{Appends};
+ghost use Rattle.hv_run.specs.Failure.{CanRun, exit_of};
 ghost use Rattle.hv_trace.specs.Perfetto.{HasCharted, closing_text};
 
 mod chart;
@@ -31,6 +32,7 @@ pub fn perfetto_text<W: Write, E: Write>(
 ) -> Exit
     ensures charted { result ≡ Exit.Done → HasCharted script.now (W.contents out.old) (W.contents out.new) }
     ensures silent { result ≡ Exit.Script → out.new ≡ out.old }
+    ensures faulty { result ≡ Exit.Script → CanRun script.now → ⊥ }
     ensures no_usage { result ≢ Exit.Usage }
 {
     match prepare(alloc, script) {
@@ -40,7 +42,9 @@ pub fn perfetto_text<W: Write, E: Write>(
 }
 
 // Creates the teller of a script. `Err` if the script has a fault, or its machine doesn't boot.
-fn prepare(alloc: Global, script: &[u8]) -> Result<Chart, Failure> {
+fn prepare(alloc: Global, script: &[u8]) -> Result<Chart, Failure>
+    ensures { IfErr result (λ failure. exit_of failure ≡ Exit.Script → CanRun script.now → ⊥) }
+{
     let script = parse(alloc, script)?;
     let _kept = Kept::boot(alloc, script.config, script.limit)?;
     match Chart::new(alloc) {

@@ -3,6 +3,7 @@ ghost use Rattle.std.specs.Prelude.{◌≡◌, ◌≢◌, true, IfNone, IfSome};
 ghost use Rattle.hv_check.specs.Legal.{IsLegalOf};
 ghost use Rattle.hv_explain.specs.Followed.{HasFollowedText};
 ghost use Rattle.hv_explain.specs.Written.{HasExplainedText};
+ghost use Rattle.hv_run.specs.Failure.{CanRun};
 ghost use Rattle.hv_trace.specs.Trace.{traces};
 
 use crate::lines::Lines;
@@ -34,6 +35,7 @@ pub fn trace_text<W: Write, E: Write>(
     ensures illegal { IfSome audit.entry (λ audit. result ≡ Exit.Script
         → IsLegalOf true true script.now audit.now → ⊥) }
     ensures silent { IfNone audit.entry (result ≡ Exit.Script → out.new ≡ out.old) }
+    ensures faulty { IfNone audit.entry (result ≡ Exit.Script → CanRun script.now → ⊥) }
     ensures no_usage { result ≢ Exit.Usage }
 {
     let Ok(lines) = Lines::read(alloc, script) else {
