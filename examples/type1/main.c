@@ -42,12 +42,9 @@ void guest_says(struct vcpu *vcpu, char byte) { /* by lines, so that guests don'
     print(LOG, "%u.%u| %s\n", vcpu->of->id, (uint64_t)vcpu->pages.of.vp, vcpu->text);
 }
 
-_Noreturn static void power_off(uint8_t how) {
-    for (;;) out8(DEBUG_EXIT, how);
-}
 _Noreturn void stop(const char *why, uint64_t number) {
     print(LOG, "stop: %s, %x\n", why, number);
-    power_off(1);
+    for (;;) out8(DEBUG_EXIT, 1);
 }
 _Noreturn void host_fault(const uint64_t *stack) {
     print(LOG, "vector %u, then %x, %x\n", stack[0], stack[1], stack[2]);
@@ -225,7 +222,7 @@ _Noreturn void finish(void) {
     print(LOG, "%u events, %u exits; heap %u bytes\n", machine.events, cost.exits, (uint64_t)heap_used);
     print(LOG, "cycles of an exit: %u, of which the library has %u and the lock %u\n",
           cost.cycles / cost.exits, cost.library / cost.exits, cost.locking / cost.exits);
-    power_off(0x10);
+    for (;;) out8(DEBUG_EXIT, 0x10);
 }
 
 _Noreturn void processor_main(unsigned index) {

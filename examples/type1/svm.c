@@ -66,10 +66,12 @@ void make_pending(struct vcpu *vcpu, uint8_t vector) {
 /* Runs it until its next exit. The caller holds no lock. */
 void svm_run(struct processor *me, struct vcpu *vcpu) {
     struct vmcb *const v = vcpu->vmcb;
+    const uint64_t behind_sti = v->shadow & 1 ? v->rip : 0;
     v->rax = vcpu->r[RAX], v->rsp = vcpu->r[RSP];
     svm_enter((uint64_t)v, (uint64_t)&me->host, vcpu->r);
     vcpu->r[RAX] = v->rax, vcpu->r[RSP] = v->rsp;
     v->event = v->cut_event >> 31 & 1 ? v->cut_event : 0;
+    if (behind_sti != 0 && behind_sti == v->rip) v->shadow |= 1; /* it made no step: see svm_inject */
     if (v->interrupt & VECTOR) make_pending(vcpu, (uint8_t)(v->interrupt >> 32)); /* it wasn't taken */
 }
 

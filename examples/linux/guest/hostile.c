@@ -4,7 +4,7 @@
  * the VMM writes, or a call's output, lie in `scratch` or outside its memory.
  */
 #ifndef ROUNDS
-#define ROUNDS 1000
+#define ROUNDS 400
 #endif
 #ifndef SEED
 #define SEED 1
@@ -73,7 +73,8 @@ static void take_message(void) {
 
 /* Posts until the root's port has room: the root takes its time. */
 static void insist(const uint32_t *payload, uint32_t len) {
-    while ((post(4, payload, len) & 0xFFFF) == 0x13) __asm__ volatile("pause");
+    while ((post(4, payload, len) & 0xFFFF) == 0x13)
+        for (volatile unsigned n = 100000; n > 0; n--) {}
 }
 
 /* ---- attacks ---- */
