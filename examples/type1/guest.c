@@ -195,10 +195,10 @@ static uint64_t attack(uint64_t count) {
     return wrong;
 }
 
-/* XMM7 is nobody else's, nor may the hypervisor change it. */
+/* XMM7 is this processor's: another one has its own, and the hypervisor changes none. */
 static uint64_t talk(unsigned command, uint64_t count, uint32_t connection) {
     uint64_t m[3], wrong = 0, kept;
-    __asm__ volatile("movq %0, %%xmm7" ::"r"(MAGIC + count));
+    __asm__ volatile("movq %0, %%xmm7" ::"r"(me()));
     for (uint64_t n = 1; n <= count; n++) {
         if (command == PING) post(connection, PING, n);
         take(TALK, m);
@@ -206,7 +206,7 @@ static uint64_t talk(unsigned command, uint64_t count, uint32_t connection) {
         if (command == PONG) post(connection, PONG, n);
     }
     __asm__ volatile("movq %%xmm7, %0" : "=r"(kept));
-    return wrong + (kept != MAGIC + count);
+    return wrong + (kept != (uint64_t)me());
 }
 
 /* Each signal is one flag, and one vector, which has come at the latest after one more exit. */
@@ -296,6 +296,7 @@ static void make_child(uint64_t id, uint64_t base, uint64_t mask, unsigned vps) 
     must("HvSetPartitionProperty", call(0x45));
     for (unsigned i = 0; i < SIZE; i++) put(8 + 8 * i, base + i);
     must("HvDepositMemory", call(0x48 | (uint64_t)SIZE << 32));
+    must("a page of the child", FAULT_OF("mov (%2), %%r11", "r"(base * PAGE)) != 13); /* it is gone here */
     must("HvInitializePartition", hypercall(0x10041, id, 0));
     link(1, 0, COMMANDS, id, id, REPORT);
     for (unsigned vp = 0; vp < vps; vp++) start_child(id, vp, base);
