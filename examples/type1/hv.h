@@ -2,6 +2,7 @@
 #pragma once
 #include "hvpm_guest.h"
 #include "hvpm_pages.h"
+#include <string.h>
 
 enum { PAGE = 4096, PAGES = 1024, PROCESSORS = 4, PARTITIONS = 8, VCPUS = 8 };
 enum { UD = 6, GP = 13, RFLAGS_IF = 1 << 9 };
