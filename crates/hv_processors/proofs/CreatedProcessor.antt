@@ -1,5 +1,5 @@
 -- A processor that was created or deleted: the rows are tied to what the model makes of it, and the effect tells it.
-use Rattle.std.proofs.Common.{◌≡◌, ℕ, ◌==◌, ◌&&◌, true, false, Option, Some, None, is_some, refl, sym, ap, subst, ◌∙◌, eq-eqb, nat_cmp, option_map}
+use Rattle.std.proofs.Common.{◌≡◌, ℕ, Bool, ◌==◌, ◌&&◌, not, true, false, Option, Some, None, is_some, refl, sym, ap, subst, ◌∙◌, eq-eqb, nat_cmp, option_map}
 use Rattle.std.proofs.lemmas.Bool.{and_from}
 use Rattle.std.specs.FinMap.{FinMap, contains_key, get, insert, remove, get-insert, get-remove}
 use Rattle.hv_calls.specs.declared.call.Call.TheVariants.{CreateVp, DeleteVp}
@@ -55,6 +55,12 @@ module _ (rows : Rows PartitionState) (f : Flat) (flat : Refines rows f) where
         let (r, at, state) = state_row rows i.rows.flat i.rows.tied caller (DeleteVp partition vp) allowed allowed.further.0 in
         active_there (target_of (DeleteVp partition vp) caller) r at state
 
+not_there : (a b : Bool) → a && not b ≡ true → b ≡ false
+not_there true true h = cc
+not_there true false h = refl
+not_there false true h = cc
+not_there false false h = refl
+
 -- a partition that was lent from the tree, whose processors changed, and put back
 module _ (rows : Rows PartitionState) (f : Flat) (flat : Refines rows f) (id index : ℕ) (p : PartitionState) (found : Some p ≡ content rows id) where
   in_row : vp_in index (get rows id) ≡ get p.vps.vps index
@@ -108,3 +114,14 @@ module _ (rows : Rows PartitionState) (f : Flat) (flat : Refines rows f) (id ind
   pub removed_told : life_of f id ≡ Some Active → contains_key p.vps.vps index ≡ true
       → Tells (variant.Processor id index) f (record f { vp = remove f.vp (id, index); mail = mail_but_at id index f.mail })
   removed_told active there = deleted_told f id index active (ap is_some in_flat ∙ still_there vp_row_of (get p.vps.vps index) ∙ there)
+
+-- where a processor may be created, the target has none with its index
+pub create_free : (rows : Rows PartitionState) (caller partition vp : ℕ) → IsGranted rows caller (CreateVp partition vp) → (p : PartitionState)
+    → Some p ≡ content rows (target_of (CreateVp partition vp) caller) → (vps : FinMap nat_cmp VpState) → vps ≡ p.vps.vps → contains_key vps vp ≡ false
+create_free rows caller partition vp g p found vps same =
+    let i = g.admitted in
+    let target = target_of (CreateVp partition vp) caller in
+    let allowed = admitted_allowed rows caller (CreateVp partition vp) i g.met in
+    let tied = in_flat rows i.rows.flat i.rows.tied target vp p found in
+    ap {A = FinMap nat_cmp VpState} (λ m. is_some (get m vp)) same ∙ sym (still_there vp_row_of (get p.vps.vps vp)) ∙ sym (ap is_some tied)
+    ∙ not_there _ (contains_key i.rows.flat.vp (target, vp)) allowed.further.1.0
