@@ -9,6 +9,7 @@ use Rattle.std.specs.contracts.impls.GlobalAllocator.TheImpl.{ghosts}
 use Rattle.hv_history.specs.contracts.kept.Kept as Kept
 use Rattle.hv_history.specs.contracts.row.History as History
 use Rattle.hv_machine.specs.contracts.machine.Machine as Machine
+use Rattle.hv_mail.proofs.tree.Tree.TheLaws.TheKnot as counted
 use Rattle.hv_mail.specs.contracts.mailbox.Mailbox as Mailbox
 use Rattle.hv_pages.specs.contracts.page_set.PageSet as PageSet
 use Rattle.hv_partition.specs.contracts.partition.Partition as Partition
@@ -28,7 +29,7 @@ pub pages-send : IsSend (PageSet.the_row Heap.the_row ghosts)
 pages-send = search (sendable, crosses) depth 40
 
 pub mailbox-send : IsSend (Mailbox.the_row Heap.the_row ghosts)
-mailbox-send = search (sendable, crosses) depth 40
+mailbox-send = search (crosses, counted.crosses, sendable) depth 60 fits 20000
 
 pub vp-send : IsSend (Vp.the_row Heap.the_row ghosts)
 vp-send = search (sendable, crosses, mailbox-send) depth 40
