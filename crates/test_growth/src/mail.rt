@@ -1,12 +1,11 @@
 // Messages, and processors at which they arrive.
 
-use crate::rationed::{Heap, Rationed};
+use crate::rationed::Heap;
 use crate::trial::{Answer, Told, Trial, answer_of, attempt};
 use arrayvec::ArrayVec;
 use hv_mail::{Mailbox, Message};
 use hv_vp::Vp;
 use std::alloc::AllocError;
-use std::test::Fail;
 
 // A message of port 5 of birth 10, with one byte.
 fn message(byte: u8) -> Message {
@@ -201,47 +200,4 @@ pub(crate) fn reserve_message(heap: &Heap, blocks: u64) -> Result<Told, AllocErr
         }
     }
     Ok(attempt(heap, &mut Ready { heap, vp }, blocks))
-}
-
-// Fewer bytes than twice what a processor takes.
-const PROCESSOR: usize = 6_000;
-
-// And its first message, with the room for it at each SINT.
-const FIRST_MESSAGE: usize = 2_000;
-
-// And each further message with the room for it, of ports that have none yet.
-const MESSAGE: usize = 600;
-
-// What a processor takes, what its first message takes, and what 100 further ones take.
-fn taken(heap: &Heap) -> Result<(usize, usize, usize), AllocError> {
-    let mut vp = Vp::new(heap, 7)?;
-    let made = heap.taken();
-    vp.reserve_message()?;
-    vp.post(2, message(1));
-    let first = heap.taken();
-    for port in 0..100 {
-        vp.reserve_message()?;
-        let mut next = message(2);
-        next.port = port;
-        vp.post(3, next);
-    }
-    let all = heap.taken();
-    Ok((made, first.wrapping_sub(made), all.wrapping_sub(first)))
-}
-
-#[test]
-fn memory_of_messages(rt: HostRuntime) -> Result<(), Fail> {
-    let heap = Rationed::new(rt.alloc());
-    let (made, first, more) = taken(&heap)?;
-    assert!(rt; made < PROCESSOR, "{made} bytes for a processor");
-    assert!(rt;
-        first < FIRST_MESSAGE,
-        "{first} bytes for its first message"
-    );
-    assert!(rt;
-        more < 100 * MESSAGE,
-        "{more} bytes for 100 further messages"
-    );
-    assert!(rt; heap.taken() == 0, "bytes are left");
-    Ok(())
 }

@@ -12,8 +12,6 @@ pub type Heap = Rationed<Global>;
 pub struct Rationed<B: Allocator> {
     inner: B,
     left: Cell<u64>,
-    // The bytes of the blocks that are taken.
-    taken: Cell<usize>,
 }
 
 impl<B: Allocator> Rationed<B> {
@@ -22,7 +20,6 @@ impl<B: Allocator> Rationed<B> {
         Rationed {
             inner,
             left: Cell::new(u64::MAX),
-            taken: Cell::new(0),
         }
     }
 
@@ -36,11 +33,6 @@ impl<B: Allocator> Rationed<B> {
         self.left.set(u64::MAX);
     }
 
-    /// The bytes of all blocks that are taken and not given back.
-    pub fn taken(&self) -> usize {
-        self.taken.get()
-    }
-
     /// Returns the other allocator.
     pub fn inner(&self) -> B
     where
@@ -52,11 +44,7 @@ impl<B: Allocator> Rationed<B> {
 
 impl<B: Allocator> Drop for Rationed<B> {
     fn drop(self) {
-        let Self {
-            inner: _,
-            left: _,
-            taken: _,
-        } = self;
+        let Self { inner: _, left: _ } = self;
     }
 }
 
@@ -75,16 +63,14 @@ unsafe impl<B: Allocator> Allocator for Rationed<B> {
     ghost dealloc_token = { λ heap ty ptr. B.dealloc_token heap.inner ty ptr };
 
     fn allocate(&self, size: usize, align: usize) -> Result<*mut u8, AllocError> {
-        if !spend(&self.left) {
-            return Err(AllocError);
+        if spend(&self.left) {
+            self.inner.allocate(size, align)
+        } else {
+            Err(AllocError)
         }
-        let block = self.inner.allocate(size, align)?;
-        self.taken.set(self.taken.get().wrapping_add(size));
-        Ok(block)
     }
 
     unsafe fn deallocate(&self, ptr: *mut u8, size: usize, align: usize) {
-        self.taken.set(self.taken.get().wrapping_sub(size));
         self.inner.deallocate(ptr, size, align);
     }
 }
