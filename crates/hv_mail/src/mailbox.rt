@@ -1,7 +1,7 @@
 // The messages of one processor: a queue for each SINT, created with the room for the first message, and the
 // number of messages of each port.
-ghost use Rattle.std.specs.Prelude.{◌≡◌, ◌+◌, ◌<◌, ◌==◌, ◌&&◌, ℕ, true, IfOk, IfSome, IsOk, OnOk, is_some};
-ghost use Rattle.std.specs.Prelude.{length, nat_lt, option_map};
+ghost use Rattle.std.specs.Prelude.{◌≡◌, ◌+◌, ◌<◌, ◌≤◌, ◌==◌, ◌&&◌, ℕ, true, false, IfOk, IfSome, IsOk};
+ghost use Rattle.std.specs.Prelude.{OnOk, is_some, length, nat_lt, option_map};
 ghost use Rattle.std.specs.Int.{bit_at};
 ghost use Rattle.std.specs.List.{list_all};
 ghost use Rattle.std.specs.FinMap as map;
@@ -178,6 +178,9 @@ impl<A: Allocator> Mailbox<A> {
     {
         let mut shown = 0;
         for sint in 0..SINTS as u8 {
+            if !self.is_busy_from(sint) {
+                return shown;
+            }
             if self.advance(sint) {
                 shown |= 1 << sint;
             }
@@ -194,11 +197,25 @@ impl<A: Allocator> Mailbox<A> {
     {
         let mut due = 0;
         for sint in 0..SINTS as u8 {
+            if !self.is_busy_from(sint) {
+                return due;
+            }
             if self.is_due(sint) {
                 due |= 1 << sint;
             }
         }
         due
+    }
+
+    // Whether this SINT or a higher one may have a message.
+    fn is_busy_from(&self, sint: u8) -> bool
+        requires { sint < SINTS }
+        ensures none { result ≡ false
+            → (k : ℕ) → sint ≤ k → k < SINTS → has_next (at self.now.mail k) ≡ false }
+        ensures stays { result ≡ false → (k : ℕ) → sint ≤ k → k < SINTS
+            → with_at self.now.mail k (with_next (at self.now.mail k)) ≡ self.now.mail }
+    {
+        self.busy >> sint != 0
     }
 
     // Whether a message waits at a SINT and none is shown there.

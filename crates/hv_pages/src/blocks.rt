@@ -15,11 +15,11 @@ use arrayvec::ArrayVec;
 use std::alloc::{AllocError, Allocator};
 
 // The most runs of a block, and half of that.
-const FULL: usize = 256;
+pub(crate) const FULL: usize = 256;
 
-const HALF: usize = 128;
+pub(crate) const HALF: usize = 128;
 
-type Block = ArrayVec<Run, FULL>;
+pub(crate) type Block = ArrayVec<Run, FULL>;
 
 // The position of a run: its block, and its position in the block.
 #[derive(Clone, Copy, Drop)]

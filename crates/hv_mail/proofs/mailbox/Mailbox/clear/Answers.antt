@@ -13,7 +13,8 @@ use Rattle.hv_mail.proofs.mailbox.Mailbox.clear.Goals as goal
 
 -- the mail once the queue was cleared
 written : (g : Over) (c : After-forget g)
-    → mail_from 0 (set c.self.inside.queues.items c.from-at.result c.clear.new.self) ≡ with_at (mail_from 0 c.self.inside.queues.items) c.from-at.result
+    → mail_from 0 (set c.self.inside.queues.items c.from-at.result c.clear.new.self) ≡ with_at (mail_from 0 c.self.inside.queues.items)
+    c.from-at.result
     (cleared (at (mail_from 0 c.self.inside.queues.items) c.from-at.result))
 written g c = write_queue c.self.inside.queues.items c.from-at.result c.index_mut-queue.result.now c.clear.new.self cleared
     (omega arith) c.index_mut-queue.ensures.value c.clear.ensures.mail
@@ -21,11 +22,13 @@ written g c = write_queue c.self.inside.queues.items c.from-at.result c.index_mu
 -- that its queues have room still
 ready : (g : Over) (c : After-forget g) → are_ready c.self.inside.queues.items ≡ true
     → are_ready (set c.self.inside.queues.items c.from-at.result c.clear.new.self) ≡ true
-ready g c = still_roomy c.self.inside.queues.items c.from-at.result c.index_mut-queue.result.now c.clear.new.self (omega arith) c.index_mut-queue.ensures.value
+ready g c = still_roomy c.self.inside.queues.items c.from-at.result c.index_mut-queue.result.now c.clear.new.self
+    (omega arith) c.index_mut-queue.ensures.value
     c.clear.ensures.kept
 
 -- and that its messages are counted
-counted : (g : Over) (c : After-forget g) → AreCounted c.forget.new.tally.tree (mail_from 0 (set c.self.inside.queues.items c.from-at.result c.clear.new.self))
+counted : (g : Over) (c : After-forget g)
+    → AreCounted c.forget.new.tally.tree (mail_from 0 (set c.self.inside.queues.items c.from-at.result c.clear.new.self))
 counted g c =
     cleared_counted (kept_in c.self.inside.tally.tree) c.self.inside.queues.items c.from-at.result c.index_mut-queue.result.now c.clear.new.self
     (omega arith) c.index_mut-queue.ensures.value
@@ -91,6 +94,7 @@ invariant_of-self-else-not-is_pending g c =
       whole = still_whole c.self.inside.queues.items c.from-at.result c.clear.new.self c.self.invariant.whole;
       counted = counted g there;
       room = λ noted. ready g there (c.self.invariant.room noted);
-      quiet = rw (written g there) (quiet_kept c.self.inside.busy (mail_from 0 c.self.inside.queues.items) c.from-at.result c.self.invariant.quiet cleared
+      quiet = rw (written g there) (quiet_kept c.self.inside.busy (mail_from 0 c.self.inside.queues.items) c.from-at.result c.self.invariant.quiet
+          cleared
           refl);
     }

@@ -12,7 +12,8 @@ returns-then-self-sint-eq0 g c =
 
 pub returns-then-at-len : goal.returns-then-at-len
 returns-then-at-len g c =
-    rw (← c.self.view_is, ← c.from-at.ensures) (c.is_due.ensures ∙ ap has_next (sym (read_queue c.self.inside.queues.items c.from-at.result c.index.result.now (omega arith) c.index.ensures)))
+    rw (← c.self.view_is, ← c.from-at.ensures) (c.is_due.ensures
+    ∙ ap has_next (sym (read_queue c.self.inside.queues.items c.from-at.result c.index.result.now (omega arith) c.index.ensures)))
 
 pub returns-else-at-len : goal.returns-else-at-len
 returns-else-at-len g c =

@@ -32,7 +32,8 @@ invariant_of-self g c =
     let sixteen = whole c.self.inside.queues.items c.self.invariant.whole room.0 in
     record {
       whole = still_whole c.self.inside.queues.items c.from.result c.post-shown.new.self c.self.invariant.whole;
-      counted = posted_counted (kept_in c.self.inside.tally.tree) c.self.inside.queues.items c.from.result c.index_mut-queue.result.now c.post-shown.new.self
+      counted = posted_counted (kept_in c.self.inside.tally.tree) c.self.inside.queues.items c.from.result c.index_mut-queue.result.now
+          c.post-shown.new.self
           (omega arith) c.index_mut-queue.ensures.value
           c.self.invariant.counted (kept_in c.add.new.self.tree) c.args.message c.post-shown.ensures.mail c.add.ensures;
       room = λ noted. still_roomy c.self.inside.queues.items c.from.result c.index_mut-queue.result.now c.post-shown.new.self

@@ -14,4 +14,5 @@ returns-then-at-len g c =
 pub returns-else-at-len : goal.returns-else-at-len
 returns-else-at-len g c =
     rw (← c.self.view_is)
-    (sym (ap (λ o. option_map (λ (message : Message). message.port) (mail_or_none o).slot) (absent_at c.self.inside.queues.items c.args.sint c.self.invariant.whole c.requires (omega arith))))
+    (sym (ap (λ o. option_map (λ (message : Message). message.port) (mail_or_none o).slot)
+    (absent_at c.self.inside.queues.items c.args.sint c.self.invariant.whole c.requires (omega arith))))
