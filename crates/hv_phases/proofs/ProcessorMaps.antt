@@ -1,9 +1,8 @@
 -- Maps that have something for each processor.
-use Rattle.std.proofs.Common.{◌≡◌, ◌==◌, ◌&&◌, ℕ, sym, ap, ◌∙◌, subst, arith, false, Option, Some}
+use Rattle.std.proofs.Common.{◌≡◌, ◌==◌, ◌&&◌, ℕ, sym, ap, ◌∙◌, arith, false, Option}
 use Rattle.std.proofs.lemmas.Bool.Decides.{nat_tests}
 use Rattle.hv_policy.specs.declared.event.Caller.{Caller}
-use Rattle.hv_phases.specs.PassMap.{Each, is_key, key_of}
-use Rattle.hv_phases.proofs.AskedOfProcessor.{either}
+use Rattle.hv_phases.specs.PassMap.{is_key, key_of}
 use Rattle.indexmap.specs.IndexMap.{IndexMap, UpdatesBy, get, get_by}
 
 keys_apart : (a b c d : ℕ) → ((a ≡ c) × (b ≡ d) → ⊥) → ((a == c) && (b == d)) ≡ false
@@ -19,18 +18,11 @@ module _ {X S : Type 0} where
     pub found_at : (map : IndexMap (ℕ × ℕ) X S) (o : Option X) → o ≡ get_by (is_key key) map → get is_key map (key_of by) ≡ o
     found_at map o found = ap (λ (k : ℕ × ℕ). get is_key map k) (sym is) ∙ sym found
 
-    -- what holds of each after a write at a processor's key
-    pub each_written : (P Q : Caller → X → Type 0) (old new : IndexMap (ℕ × ℕ) X S) (w : Option X) → UpdatesBy is_key (is_key key) old new w → ((x : X) → w ≡ Some x → Q by x)
-        → ((c : Caller) (x : X) → (c ≡ by → ⊥) → P c x → Q c x) → Each P old → Each Q new
-    each_written P Q old new w did here stays each c x at =
-        either by c
-        (λ same. subst (λ (b : Caller). Q b x) (sym same) (here x (sym did.1 ∙ ap (λ (k : ℕ × ℕ). get is_key new k) (is ∙ ap key_of (sym same)) ∙ at)))
-        (λ other. stays c x other (each c x (sym (did.2 (key_of c) (ap (λ (k : ℕ × ℕ). is_key k (key_of c)) is ∙ apart by c other)) ∙ at)))
-
     -- what is there after it at another processor's key, and at its own
     pub other_written : (old new : IndexMap (ℕ × ℕ) X S) (w : Option X) → UpdatesBy is_key (is_key key) old new w → (c : Caller) → (c ≡ by → ⊥)
         → get is_key new (key_of c) ≡ get is_key old (key_of c)
     other_written old new w did c other = did.2 (key_of c) (ap (λ (k : ℕ × ℕ). is_key k (key_of c)) is ∙ apart by c other)
 
-    pub own_written : (old new : IndexMap (ℕ × ℕ) X S) (w : Option X) → UpdatesBy is_key (is_key key) old new w → (c : Caller) → c ≡ by → get is_key new (key_of c) ≡ w
+    pub own_written : (old new : IndexMap (ℕ × ℕ) X S) (w : Option X) → UpdatesBy is_key (is_key key) old new w → (c : Caller) → c ≡ by
+        → get is_key new (key_of c) ≡ w
     own_written old new w did c same = ap (λ (k : ℕ × ℕ). get is_key new k) (ap key_of same ∙ sym is) ∙ did.1

@@ -1,17 +1,24 @@
 -- The history of a run whose lines didn't all run.
-use Rattle.std.specs.Prelude.{ℕ, ◌≡◌, ◌⊎◌, List, [], ◌∷◌, ◌++◌, All, map}
+use Rattle.std.specs.Prelude.{ℕ, ◌≡◌, ◌⊎◌, ◌+◌, List, [], ◌∷◌, ◌++◌, All, Bool, IsTrue, length, map, sum}
+use Rattle.std.specs.Prelude.{Option, None, Some}
 use Rattle.std.specs.declared.alloc.Global.{Global}
 use Rattle.hv_history.specs.Kept.{Kept}
-use Rattle.hv_phases.specs.Lines.{asked_by}
+use Rattle.hv_history.specs.declared.entry.Entry.{Entry}
+use Rattle.hv_history.specs.declared.kept.HostRefused.{HostRefused}
+use Rattle.hv_phases.specs.Lines.{AreInOrder, ArePhased, AreRun, asked_by, callers_in}
+use Rattle.hv_phases.specs.Turns.{IsPast}
+use Rattle.hv_phases.specs.declared.run.RunError.{RunError}
+use Rattle.hv_phases.specs.declared.run.RunError.TheVariants as error
 use Rattle.hv_policy.specs.declared.config.Config.{Config}
 use Rattle.hv_policy.specs.declared.event.Action.{Action}
 use Rattle.hv_policy.specs.declared.event.Caller.{Caller}
 use Rattle.hv_script.specs.declared.line.Line.{Line}
-use Rattle.hv_shared.specs.ByCaller.{AreDifferent, receipts_by}
+use Rattle.hv_shared.specs.ByCaller.{receipts_by}
 use Rattle.hv_shared.specs.Merge.{receipts_of}
 use Rattle.hv_shared.specs.PassValue.{PassValue}
 use Rattle.hv_shared.specs.Settle.{IsFault, IsMadeOf}
 use Rattle.hv_shared.specs.declared.fault.SettleFault.{SettleFault}
+use Rattle.hv_shared.specs.declared.fault.SettleFault.TheVariants.{Differs}
 use Rattle.hv_shared.specs.declared.receipts.Receipt.{Receipt}
 use Rattle.hv_threads.specs.Perform.{IsStopped, IsWhole}
 
@@ -26,30 +33,53 @@ AreBegun by (what ∷ more) list =
 abbrev pub HasBegun : List (Line Global) → PassValue → Type 0
 HasBegun lines pass = AreBegun pass.caller (asked_by pass.caller lines) pass.receipts
 
--- The history was begun with this configuration and limit. In its order, each processor performed a first
--- part of what its lines ask for. A processor that no line names did nothing.
-pub record IsFirstPart (config : Config) (limit : ℕ) (lines : List (Line Global)) (k : Kept Global) : Type 0
+-- The first entries are those of the lines before, as in a whole run of these lines. Behind them each
+-- processor performed a first part of what the next lines ask for, which are of one phase, up to its end.
+-- Nothing was done of the lines after.
+pub record IsFirstPart (serial : Bool) (lines : List (Line Global)) (history : List (Entry Global)) : Type 0
   where
-    pub same_config : k.config ≡ config
-    pub same_limit : k.limit ≡ limit
-    pub begun : (by : Caller) → AreBegun by (asked_by by lines) (receipts_by by 1 k.history)
+    pub before : List (Line Global)
+    pub block : List (Line Global)
+    pub after : List (Line Global)
+    pub all : before ++ (block ++ after) ≡ lines
+    pub phase : ℕ
+    pub one : All (λ line. line.phase ≡ phase) block
+    pub past : IsPast phase after
+    pub own : List (Entry Global)
+    pub rest : List (Entry Global)
+    pub parts : history ≡ own ++ rest
+    pub run : AreRun before own
+    pub phased : ArePhased before own
+    pub in_order : IsTrue serial → AreInOrder 1 before own
+    pub begun : (by : Caller) → AreBegun by (asked_by by block) (receipts_by by (1 + length own) rest)
 
--- The settlement failed. Each processor's receipts are those of a first part of what its lines ask for, and
--- the history has another configuration or limit, or this first fault against them.
-pub record IsUnsettled (config : Config) (limit : ℕ) (lines : List (Line Global)) (k : Kept Global) : Type 0
-  where
-    pub passes : List PassValue
-    pub different : AreDifferent (map (λ pass. pass.caller) passes)
-    pub begun : All (HasBegun lines) passes
-    pub fault : SettleFault
-    pub is : IsFault config limit k (receipts_of passes) fault
+-- The settlement found this fault. Each processor's receipts are those of a first part of what its lines ask
+-- for, and the history has as many events as there are receipts. Either it has another configuration or
+-- limit, or this first fault against the receipts; or it is their merge, but their numbers are out of order.
+pub record IsUnsettled (config : Config) (limit : ℕ) (lines : List (Line Global)) (fault : SettleFault)
+    (k : Kept Global) : Type 0 where
+  pub passes : List PassValue
+  pub callers : map (λ pass. pass.caller) passes ≡ callers_in [] lines
+  pub begun : All (HasBegun lines) passes
+  pub count : length k.history ≡ sum (map (λ pass. length pass.receipts) passes)
+  pub found : IsFault config limit k (receipts_of passes) fault ⊎ (IsMadeOf config limit k
+      (receipts_of passes) × (fault ≡ Differs))
+
+-- the history was settled, was begun with this configuration and limit, and is a first part of the lines
+pub record IsSettledPart (config : Config) (limit : ℕ) (serial : Bool) (lines : List (Line Global))
+    (k : Kept Global) : Type 0 where
+  pub same_config : k.config ≡ config
+  pub same_limit : k.limit ≡ limit
+  pub part : IsFirstPart serial lines k.history
 
 -- what is known of each run, also of one that isn't whole
-abbrev pub IsPart : Config → ℕ → List (Line Global) → Kept Global → Type 0
-IsPart config limit lines kept = IsFirstPart config limit lines kept ⊎ IsUnsettled config limit lines kept
+abbrev pub IsPart : Config → ℕ → Bool → List (Line Global) → Kept Global → Type 0
+IsPart config limit serial lines k =
+    IsSettledPart config limit serial lines k
+    ⊎ ((fault : SettleFault) × IsUnsettled config limit lines fault k)
 
--- the history was settled with these passes, or has a first fault against them
-abbrev pub IsSettled : Config → ℕ → List PassValue → Kept Global → Type 0
-IsSettled config limit passes kept =
-    IsMadeOf config limit kept (receipts_of passes)
-    ⊎ ((fault : SettleFault) × IsFault config limit kept (receipts_of passes) fault)
+-- why a run isn't whole: the host's refusal, or else the settlement's fault
+abbrev pub error_of : Option HostRefused → Option SettleFault → Option RunError
+error_of (Some why) fault = Some (error.Host why)
+error_of None (Some fault) = Some (error.Settlement fault)
+error_of None None = None

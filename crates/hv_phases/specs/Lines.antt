@@ -1,5 +1,6 @@
 -- The history of a run of a script's lines.
-use Rattle.std.specs.Prelude.{ℕ, ◌≡◌, ◌+◌, ◌<◌, List, [], ◌∷◌, ◌++◌, length, map, filter, All}
+use Rattle.std.specs.Prelude.{ℕ, ◌≡◌, ◌+◌, ◌<◌, List, [], ◌∷◌, ◌++◌, length, map, filter, All, if◌then◌else◌}
+use Rattle.std.specs.List.{list_any}
 use Rattle.std.specs.declared.alloc.Global.{Global}
 use Rattle.hv_history.specs.declared.entry.Entry.{Entry}
 use Rattle.hv_policy.specs.declared.event.Action.{Action}
@@ -11,6 +12,12 @@ use Rattle.hv_threads.specs.Perform.{AreWhole, IsWhole}
 -- the actions that the lines of this processor ask for, in order
 abbrev pub asked_by : Caller → List (Line Global) → List (Action Global)
 asked_by by lines = map (λ line. line.action) (filter (λ line. is_caller by line.by) lines)
+
+-- these processors, and after them each that the lines name for the first time, in order
+abbrev pub callers_in : List Caller → List (Line Global) → List Caller
+callers_in seen [] = seen
+callers_in seen (line ∷ lines) =
+    callers_in (if list_any (λ by. is_caller by line.by) seen then seen else seen ++ line.by ∷ []) lines
 
 -- In the history's order, each processor performed what its lines ask for, in their order and to its end. A
 -- processor that no line names did nothing.

@@ -1,7 +1,7 @@
 // The processors of a script.
 ghost use Rattle.std.specs.Prelude.{◌≡◌, [], IfOk};
 ghost use Rattle.hv_phases.specs.PassMap.{AreCallersOf, is_key};
-ghost use Rattle.hv_phases.specs.Stops.{callers_in};
+ghost use Rattle.hv_phases.specs.Lines.{callers_in};
 ghost use Rattle.indexmap.specs.IndexSet.{IsUnique};
 
 use crate::pass_map::key_of;

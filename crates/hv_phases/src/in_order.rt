@@ -1,97 +1,128 @@
 // The lines of a script in its order, by one thread.
-ghost use Rattle.std.specs.Prelude.{◌≡◌, ◌≤◌, ◌∷◌, [], IfNone, IfOk, IfSome, OnErr, OnOk, filter, length};
-ghost use Rattle.std.specs.Prelude.{not, true};
-ghost use Rattle.hv_phases.specs.PassMap.{Each, HasActed, HasBegunBy, HasRunAll, HasRunGroup, IsIdle};
-ghost use Rattle.hv_shared.specs.ByCaller.{is_caller};
-ghost use Rattle.hv_threads.specs.Perform.{HasBegun, HasPerformed};
+ghost use Rattle.std.specs.Prelude.{◌≡◌, ◌≤◌, IfNone, IfSome, None, Some, is_some, true};
+ghost use Rattle.hv_phases.specs.PassMap.{AreGoing, Each, HasBegunBy, HasRunAll, HasRunLine, HasRunPart};
+ghost use Rattle.hv_phases.specs.PassMap.{HasTaken, HaveStayed, IsAny, IsFresh, IsWithin, stop_at};
+ghost use Rattle.hv_phases.specs.declared.stop.Halt.TheVariants as halt;
+ghost use Rattle.hv_shared.specs.PassValue.{PassValue};
 
 use crate::barrier::highest_above;
-use crate::pass_map::{CallerMap, key_of};
-use crate::run::RunError;
-use crate::stop::{Stop, first_of};
+use crate::pass_map::{CallerMap, Runner, key_of};
+use crate::stop::Halt;
 use hv_history::HostRefused;
-use hv_policy::Caller;
+use hv_policy::Action;
 use hv_script::Line;
-use hv_threads::{Driver, Gate, Pass, SettleFault};
+use hv_threads::{Driver, Gate, Pass};
 use std::alloc::Global;
 use std::sync::Wait;
 use std::sync::ledger::Ledger;
 
-/// Runs the lines one after another, and returns why the host stopped a processor, if it did.
+/// Runs the lines one after another, and returns why they didn't all run, if they didn't.
 ///
-/// A processor that was stopped runs no further line, and the others of its phase continue. Of several
-/// processors that were stopped, the first in `order` counts. No phase begins after one in which a processor
-/// was stopped. A pass doesn't know what other processors did, so the numbers of receipts are compared. Those
-/// of each line are above those of the lines before it, or the run doesn't count.
+/// A processor that the host stops runs no further line, and the others of its phase continue. No phase
+/// begins after one in which a processor was stopped. A pass doesn't know what other processors did, so the
+/// numbers of receipts are compared: those of each line are above those of the lines before it.
 pub fn run_in_order<L: Ledger, R: Wait, G: Gate>(
     driver: &Driver<'_, L, R, G>,
-    pass_map: &mut CallerMap<Pass<L>>,
+    runners: &mut CallerMap<Runner<L>>,
     lines: Vec<Line<Global>>,
-    order: &[Caller],
-) -> Option<RunError>
-    requires { Each (IsIdle [] []) pass_map.old }
-    ensures whole { IfNone result (HasRunAll true lines.items pass_map.new) }
-    ensures begun { Each (HasBegunBy lines.items) pass_map.new }
+) -> Option<Halt>
+    requires fresh { Each IsFresh runners.old }
+    requires going { AreGoing runners.old }
+    ensures whole { IfNone result (HasRunAll true lines.items runners.new) }
+    ensures part { (result ≡ Some halt.Order → ⊥) → HasRunPart true lines.items runners.new }
+    ensures begun { Each (HasBegunBy lines.items) runners.new }
+    ensures stayed { HaveStayed runners.old runners.new }
 {
     let mut left = lines;
     left.reverse();
     let mut phase = 0;
     let mut last = 0;
-    let mut differs = false;
-    let mut stop: Option<Stop> = None;
+    let mut is_stopped = false;
     while let Some(line) = left.pop() {
-        if line.phase != phase {
-            if let Some(Stop { why, .. }) = stop {
-                return Some(RunError::Host(why));
-            }
-            phase = line.phase;
+        if is_stopped && line.phase != phase {
+            return Some(Halt::Stopped);
         }
-        let by = line.by;
-        match run_line(driver, pass_map, line, last) {
-            Ok(Some(now)) => last = now,
-            Ok(None) => differs = true,
-            Err(why) => {
-                stop = Some(first_of(order, stop, Stop { by, why }));
-                leave_out(&mut left, by);
-            }
-        }
+        phase = line.phase;
+        let Some((now, goes_on)) = run_line(driver, runners, line, last) else {
+            return Some(Halt::Order);
+        };
+        last = now;
+        is_stopped = is_stopped || !goes_on;
     }
-    match (stop, differs) {
-        (None, false) => None,
-        (None, true) => Some(RunError::Settlement(SettleFault::Differs)),
-        (Some(Stop { why, .. }), _) => Some(RunError::Host(why)),
+    if is_stopped {
+        Some(Halt::Stopped)
+    } else {
+        None
     }
 }
 
-// Removes a processor's lines from those that are left.
-fn leave_out(left: &mut Vec<Line<Global>>, by: Caller)
-    ensures others { left.new.items ≡ filter (λ line. not (is_caller by line.by)) left.old.items }
-    ensures fewer { length left.new.items ≤ length left.old.items }
-{
-    left.retain(|line| line.by != by);
-}
-
-// Runs a line. Returns the highest receipt number after it, where `last` is the highest before it, or `None`
-// after a new receipt whose number isn't above `last`, and without a pass of the line's processor.
+// Runs a line. Returns the highest receipt number after it, where `last` is the highest before it, and
+// whether its processor goes on. `None` means that a new receipt's number isn't above `last`.
 fn run_line<L: Ledger, R: Wait, G: Gate>(
     driver: &Driver<'_, L, R, G>,
-    pass_map: &mut CallerMap<Pass<L>>,
+    runners: &mut CallerMap<Runner<L>>,
     line: Line<Global>,
     last: u64,
-) -> Result<Option<u64>, HostRefused>
-    ensures group { IfOk result (λ told. IfSome told (λ now. HasRunGroup (line ∷ []) last now pass_map.old
-        pass_map.new)) }
-    ensures whole { OnOk result (HasActed line.by (HasPerformed line.action) pass_map.old pass_map.new) }
-    ensures stopped { OnErr result (HasActed line.by (HasBegun line.action) pass_map.old pass_map.new) }
+) -> Option<(u64, bool)>
+    ensures rises { IfSome result (λ r. last ≤ r.0) }
+    ensures ran { IfSome result (λ r. HasRunLine (IsWithin last r.0) line runners.old runners.new) }
+    ensures goes_on { IfSome result (λ r. r.1 ≡ true → stop_at runners.new line.by ≡ None) }
+    ensures any { HasRunLine IsAny line runners.old runners.new }
 {
     let Line { by, action, .. } = line;
-    let Some(pass) = pass_map.get_mut(&key_of(by)) else {
-        return Ok(None);
+    match runners.get_mut(&key_of(by)) {
+        Some(runner) => take_line(driver, runner, action, last),
+        None => Some((last, true)),
+    }
+}
+
+// Has a processor perform an action, unless the host stopped it before.
+fn take_line<L: Ledger, R: Wait, G: Gate>(
+    driver: &Driver<'_, L, R, G>,
+    runner: &mut Runner<L>,
+    action: Action<Global>,
+    last: u64,
+) -> Option<(u64, bool)>
+    ensures rises { IfSome result (λ r. last ≤ r.0) }
+    ensures took { (was pass : PassValue) → runner.old.pass ≡ Some was → runner.new.pass ≡ Some pass
+        → IfSome result (λ r. HasTaken (IsWithin last r.0) action runner.old.stop runner.new.stop was pass) }
+    ensures any { (was pass : PassValue) → runner.old.pass ≡ Some was → runner.new.pass ≡ Some pass
+        → HasTaken IsAny action runner.old.stop runner.new.stop was pass }
+    ensures there { is_some runner.new.pass ≡ is_some runner.old.pass }
+    ensures goes_on { IfSome result (λ r. r.1 ≡ true → runner.new.stop ≡ None) }
+{
+    if runner.stop.is_some() {
+        return Some((last, false));
+    }
+    let Some(pass) = &mut runner.pass else {
+        return Some((last, true));
     };
+    let (stop, now) = drive_line(driver, pass, action, last);
+    runner.stop = stop;
+    match now {
+        Some(now) => Some((now, stop.is_none())),
+        None => None,
+    }
+}
+
+// Performs an action. Returns why the host stopped it, if it did, and the highest receipt number after it, if
+// the numbers of the new receipts are above `last`.
+fn drive_line<L: Ledger, R: Wait, G: Gate>(
+    driver: &Driver<'_, L, R, G>,
+    pass: &mut Pass<L>,
+    action: Action<Global>,
+    last: u64,
+) -> (Option<HostRefused>, Option<u64>)
+    ensures rises { IfSome result.1 (λ now. last ≤ now) }
+    ensures took { IfSome result.1 (λ now.
+        HasTaken (IsWithin last now) action None result.0 pass.old pass.new) }
+    ensures any { HasTaken IsAny action None result.0 pass.old pass.new }
+{
     let before = pass.receipts().len();
     let done = driver.drive(pass, action);
+    let now = highest_above(pass.receipts(), before, last, last);
     match done {
-        Ok(()) => Ok(highest_above(pass.receipts(), before, last, last)),
-        Err(why) => Err(why),
+        Ok(()) => (None, now),
+        Err(why) => (Some(why), now),
     }
 }

@@ -3,8 +3,9 @@
 //! Each processor that a script names has one [`hv_threads::Pass`] for the whole run. A phase ends before the
 //! next one begins. In a phase, each of its processors drives its lines in order, in a thread of its own. In
 //! the script's order, one thread does so, line by line. At the end the passes' receipts are settled with the
-//! history. [`run_lines`] returns the machine with its history, and why the lines didn't all run, if they
-//! didn't. Of several processors that the host stopped, the one with the first line counts.
+//! history. [`run_lines`] returns the machine with its history, why the host stopped the run, if it did, and
+//! the fault that the settlement found, if there is one. Of several processors that the host stopped, the one
+//! with the first line counts.
 //!
 //! [`Schedule`] says whose turn it may be, and when a phase ends: it steps through a script's lines by named
 //! processor, as an audit names them. Scripts and phases are this project's own.
@@ -21,6 +22,6 @@ mod stop;
 mod turn;
 mod turning;
 
-pub use run::{RunError, run_lines};
+pub use run::{LinesDone, RunError, run_lines};
 pub use schedule::Schedule;
 pub use turn::Turn;

@@ -1,34 +1,41 @@
-// The processors of a phase that the host stopped.
-ghost use Rattle.std.specs.Prelude.{◌≡◌, ◌⊎◌, ◌≤◌, IfSome, Some};
-ghost use Rattle.hv_phases.specs.Stops.{place_in};
+// The processors that the host stopped.
+ghost use Rattle.std.specs.Prelude.{IfNone, IfSome};
+ghost use Rattle.hv_phases.specs.Stops.{AreAllGoing, IsFirstStop};
 
+use crate::pass_map::{CallerMap, Runner, key_of};
 use hv_history::HostRefused;
 use hv_policy::Caller;
+use std::sync::ledger::Ledger;
 
-/// A processor that the host stopped, and why.
-#[derive(Clone, Copy)]
-pub struct Stop {
-    pub by: Caller,
-    pub why: HostRefused,
+/// Why lines didn't all run.
+#[derive(Clone, Copy, PartialEq, Eq)]
+pub enum Halt {
+    /// The host stopped a processor, and the others of its phase came to their end.
+    Stopped,
+    /// There was no memory for the next phase.
+    Memory,
+    /// A receipt's number isn't above those of the phases or lines before it.
+    Order,
 }
 
-/// Returns the stop of the processor that comes first in this order: of this one, or of one before, if there
-/// was one.
-pub fn first_of(order: &[Caller], before: Option<Stop>, stop: Stop) -> Stop
-    ensures one { (result ≡ stop) ⊎ (before ≡ Some result) }
-    ensures not_after { place_in order.now result.by ≤ place_in order.now stop.by }
-    ensures first { IfSome before (λ other. place_in order.now result.by ≤ place_in order.now other.by) }
+/// Returns why the host stopped the first of these processors that it stopped.
+pub fn first_stop<L: Ledger>(
+    order: &[Caller],
+    runners: &CallerMap<Runner<L>>,
+) -> Option<HostRefused>
+    ensures none { IfNone result (AreAllGoing runners.now order.now) }
+    ensures some { IfSome result (IsFirstStop runners.now order.now) }
 {
-    let Some(other) = before else {
-        return stop;
-    };
     for at in 0..order.len() {
-        if order[at] == other.by {
-            return other;
-        }
-        if order[at] == stop.by {
-            return stop;
+        if let Some(
+            Runner {
+                stop: Some(why),
+                ..
+            },
+        ) = runners.get(&key_of(order[at]))
+        {
+            return Some(*why);
         }
     }
-    other
+    None
 }

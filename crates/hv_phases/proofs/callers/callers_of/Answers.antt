@@ -1,6 +1,6 @@
 use Rattle.std.proofs.Common.{◌≡◌, List, [], ℕ, ◌+◌, arith, ap, subst, sym, take, ◌∙◌, All, map, Contains, take_all, Global}
 use Rattle.hv_phases.specs.PassMap.{is_key, key_of}
-use Rattle.hv_phases.specs.Stops.{callers_in}
+use Rattle.hv_phases.specs.Lines.{callers_in}
 use Rattle.hv_phases.proofs.NamedProcessors.{all_callers, caller_of, in_order_more, one_more}
 use Rattle.hv_phases.proofs.callers.callers_of.Goals as goal
 use Rattle.hv_script.specs.declared.line.Line.{Line}
@@ -22,7 +22,8 @@ pub returns : goal.returns
 returns c =
     let seen = c.loop-at.seen.keys in
     let all : take c.loop-at.at c.args.lines.now ≡ c.args.lines.now = take_all c.loop-at.at c.args.lines.now (omega (arith, c.loop-at-test.false)) in
-    let are = c.loop-place.invariant ∙ ap (map caller_of) (take_all c.loop-place.place c.in_ok-keys.keys.items (omega (arith, c.loop-place-test.false)) ∙ c.in_ok-keys.ensures.all) in
+    let are = c.loop-place.invariant ∙ ap (map caller_of) (take_all c.loop-place.place c.in_ok-keys.keys.items (omega (arith, c.loop-place-test.false))
+    ∙ c.in_ok-keys.ensures.all) in
     record {
       all = all_callers c.args.lines.now seen c.loop-place.callers.items c.keys_in.ensures.unique
           (subst (All (λ (line : Line Global). Contains seen (key_of line.by))) all c.loop-at.invariant.named) are;

@@ -1,6 +1,6 @@
 use Rattle.std.proofs.Common.{◌≡◌, [], take, All, map, Contains}
 use Rattle.hv_phases.specs.PassMap.{key_of}
-use Rattle.hv_phases.specs.Stops.{callers_in}
+use Rattle.hv_phases.specs.Lines.{callers_in}
 use Rattle.hv_phases.proofs.NamedProcessors.{caller_of}
 use Rattle.hv_phases.proofs.callers.callers_of.Given as goal
 

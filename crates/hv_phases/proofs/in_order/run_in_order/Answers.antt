@@ -1,54 +1,72 @@
-use Rattle.std.proofs.Common.{◌≡◌, List, None, [], ◌∷◌, subst, false, true, rules, Global}
-use Rattle.hv_phases.specs.PassMap.{HasRunGroup, HasRunUpTo}
-use Rattle.hv_phases.proofs.LinesBegun.{goes_at_first, goes_begun, goes_on, goes_stopped}
-use Rattle.hv_phases.proofs.HandedLines.{line_more, up_to_none}
+use Rattle.std.proofs.Common.{◌≡◌, ◌∙◌, Bool, ap, arith, false, reverse, subst, sym, true}
+use Rattle.std.proofs.lemmas.Bool.{false≢true}
+use Rattle.std.proofs.lemmas.Bool.Decides.{nat_tests}
+use Rattle.hv_phases.proofs.LinesTaken.{Goes, after, after_going, fresh_runs, goes_begun, goes_broken, goes_more, turned}
 use Rattle.hv_phases.proofs.in_order.run_in_order.Goals as goal
-use Rattle.hv_script.specs.declared.line.Line.{Line}
+use Rattle.hv_phases.proofs.in_order.run_in_order.Goals.{else-is_stopped-via-then-is_stopped+else-line-phase, else-is_stopped-via-else-is_stopped}
 
 pub loop-line-init : goal.loop-line-init
 loop-line-init g c = record {
-  whole = λ none same. up_to_none true c.args.lines.items c.reverse.new.self.items c.args.pass_map.now c.reverse.ensures.items c.requires;
-  goes = λ by pass at. goes_at_first c.args.lines.items c.reverse.new.self.items c.reverse.ensures.items by pass (c.requires by pass at);
+  goes = (fresh_runs true c.args.lines.items c.reverse.new.self.items c.args.runners.now c.reverse.ensures.items c.requires.fresh, c.requires.going);
+  stayed = λ by has. has;
 }
 
-pub loop-line-preserved-in-Ok-Some : goal.loop-line-preserved-in-Ok-Some
-loop-line-preserved-in-Ok-Some g c = record {
-  whole = λ none same.
-      let ran : HasRunGroup (c.in-Some.line ∷ []) c.loop-line.last c.in-Ok-Some.now c.loop-line.pass_map c.run_line.new.pass_map = rw c.in-Ok-Some.field-0-is at c.in-Ok-Some.ensures.group in
-      rw c.in-Ok-Some.field-0-is (line_more _ _ c.pop.new.self.items c.in-Some.line _ c.in-Ok-Some.now _ _ (c.loop-line.invariant.whole none same) c.in-Some.ensures.items ran);
-  goes = goes_on c.args.lines.items c.loop-line.left.items c.pop.new.self.items c.in-Some.line c.loop-line.pass_map c.run_line.new.pass_map c.in-Some.ensures.items c.in-Ok-Some.ensures.whole
-      c.loop-line.invariant.goes;
-}
+pub returns-then-line-phase-clause-begun : goal.returns-then-line-phase-clause-begun
+returns-then-line-phase-clause-begun g c =
+    goes_begun c.args.lines.items (reverse c.loop-line.left.items) c.loop-line.last c.loop-line.phase c.loop-line.is_stopped c.loop-line.runners
+    c.loop-line.invariant.goes
 
-pub loop-line-preserved-in-Ok-None : goal.loop-line-preserved-in-Ok-None
-loop-line-preserved-in-Ok-None g c = record {
-  whole = λ none same. absurd (let other : true ≡ false = same in cc);
-  goes = goes_on c.args.lines.items c.loop-line.left.items c.pop.new.self.items c.in-Some.line c.loop-line.pass_map c.run_line.new.pass_map c.in-Some.ensures.items c.in-Ok-None.ensures.whole
-      c.loop-line.invariant.goes;
-}
+pub returns-in_default-run_line-clause-begun : goal.returns-in_default-run_line-clause-begun
+returns-in_default-run_line-clause-begun g c =
+    goes_broken c.args.lines.items (reverse c.loop-line.left.items) (reverse c.pop.new.self.items) c.in-Some.line c.loop-line.last c.loop-line.last
+    c.loop-line.phase c.loop-line.runners
+    c.run_line.new.runners (turned c.loop-line.left.items c.pop.new.self.items c.in-Some.line c.in-Some.ensures.items) c.loop-line.is_stopped
+    c.run_line.ensures.any c.loop-line.invariant.goes
+
+pub loop-line-preserved-then-is_stopped-2 : goal.loop-line-preserved-then-is_stopped-2
+loop-line-preserved-then-is_stopped-2 g c =
+    let line = c.in-Some.line in
+    let ran = c.in-Some-run_line.ensures in
+    let goes_on = c.in-Some-run_line.goes_on in
+    let stopped : c.loop-line.is_stopped ≡ true = c.if-is_stopped-2.true in
+    let same : c.loop-line.is_stopped ≡ true → line.phase ≡ c.loop-line.phase = λ is. elim c.else-is_stopped.branch [
+      | else-is_stopped-via-then-is_stopped+else-line-phase w ↦ let same = w.if-line-phase.false in grind (arith, nat_tests)
+      | else-is_stopped-via-else-is_stopped w ↦ absurd (false≢true (sym w.if-is_stopped.false ∙ is))
+    ] in
+    record {
+      goes = subst (λ (s : Bool). Goes c.args.lines.items (reverse c.pop.new.self.items) c.in-Some-run_line.now line.phase s c.run_line.new.runners)
+          (ap (λ (s : Bool). after s goes_on) stopped ∙ sym stopped)
+          (goes_more c.args.lines.items (reverse c.loop-line.left.items) (reverse c.pop.new.self.items) line c.loop-line.last c.in-Some-run_line.now
+          c.loop-line.phase c.loop-line.runners
+          c.run_line.new.runners (turned c.loop-line.left.items c.pop.new.self.items line c.in-Some.ensures.items) c.loop-line.is_stopped goes_on same
+          ran.rises ran.ran ran.goes_on
+          c.loop-line.invariant.goes);
+      stayed = λ by has. ran.ran.stayed by (c.loop-line.invariant.stayed by has);
+    }
 
 pub loop-line-preserved : goal.loop-line-preserved
-loop-line-preserved g c = record {
-  whole = λ none same. absurd (let other = none in cc);
-  goes = goes_stopped c.args.lines.items c.loop-line.left.items c.pop.new.self.items c.in-Some.line c.loop-line.pass_map c.run_line.new.pass_map c.in-Some.ensures.items c.leave_out.new.left.items
-      c.leave_out.ensures.others c.in-Err.ensures.stopped c.loop-line.invariant.goes;
-}
+loop-line-preserved g c =
+    let line = c.in-Some.line in
+    let ran = c.in-Some-run_line.ensures in
+    let goes_on = c.in-Some-run_line.goes_on in
+    let going : c.loop-line.is_stopped ≡ false = c.if-is_stopped-2.false in
+    record {
+      goes = subst (λ (s : Bool). Goes c.args.lines.items (reverse c.pop.new.self.items) c.in-Some-run_line.now line.phase s c.run_line.new.runners)
+          (ap (λ (s : Bool). after s goes_on) going ∙ after_going goes_on)
+          (goes_more c.args.lines.items (reverse c.loop-line.left.items) (reverse c.pop.new.self.items) line c.loop-line.last c.in-Some-run_line.now
+          c.loop-line.phase c.loop-line.runners
+          c.run_line.new.runners (turned c.loop-line.left.items c.pop.new.self.items line c.in-Some.ensures.items) c.loop-line.is_stopped goes_on
+          (λ is. absurd (false≢true (sym going ∙ is)))
+          ran.rises ran.ran ran.goes_on c.loop-line.invariant.goes);
+      stayed = λ by has. ran.ran.stayed by (c.loop-line.invariant.stayed by has);
+    }
 
-pub returns-in-None-false-clause-whole : goal.returns-in-None-false-clause-whole
-returns-in-None-false-clause-whole g c =
-    let none : c.loop-line.left.items ≡ [] = search rules in
-    let was : c.loop-line.stop ≡ None = search rules in
-    let well : c.loop-line.differs ≡ false = search rules in
-    (c.loop-line.last, subst (λ (left : List (Line Global)). HasRunUpTo true c.args.lines.items left c.loop-line.last c.loop-line.pass_map) none (c.loop-line.invariant.whole was well))
-
-pub returns-in-None-false-clause-begun : goal.returns-in-None-false-clause-begun
-returns-in-None-false-clause-begun g c = λ by pass at. goes_begun c.args.lines.items c.loop-line.left.items by pass (c.loop-line.invariant.goes by pass at)
-
-pub returns-in-None-true-clause-begun : goal.returns-in-None-true-clause-begun
-returns-in-None-true-clause-begun g c = λ by pass at. goes_begun c.args.lines.items c.loop-line.left.items by pass (c.loop-line.invariant.goes by pass at)
-
-pub returns-in-Some-stop-clause-begun : goal.returns-in-Some-stop-clause-begun
-returns-in-Some-stop-clause-begun g c = λ by pass at. goes_begun c.args.lines.items c.loop-line.left.items by pass (c.loop-line.invariant.goes by pass at)
+pub returns-then-is_stopped-3-clause-begun : goal.returns-then-is_stopped-3-clause-begun
+returns-then-is_stopped-3-clause-begun g c =
+    goes_begun c.args.lines.items (reverse c.loop-line.left.items) c.loop-line.last c.loop-line.phase c.loop-line.is_stopped c.loop-line.runners
+    c.loop-line.invariant.goes
 
 pub returns-clause-begun : goal.returns-clause-begun
-returns-clause-begun g c = λ by pass at. goes_begun c.args.lines.items c.loop-line.left.items by pass (c.loop-line.invariant.goes by pass at)
+returns-clause-begun g c =
+    goes_begun c.args.lines.items (reverse c.loop-line.left.items) c.loop-line.last c.loop-line.phase c.loop-line.is_stopped c.loop-line.runners
+    c.loop-line.invariant.goes

@@ -1,78 +1,92 @@
-use Rattle.std.proofs.Common.{◌≡◌, ℕ, suc, List, [], ◌∷◌, ◌++◌, ap, arith, drop, get_or, length, length-append, sym, subst, ◌∙◌, Some, true, false, inl, inr, refl}
-use Rattle.std.proofs.Math.Seq.{drop-cons}
-use Rattle.hv_phases.specs.PassMap.{HasJoined, HasTaken}
-use Rattle.hv_phases.proofs.WorksReturned.{taken_more}
-use Rattle.hv_phases.proofs.FirstStopped.{none_taken, noted_finished, noted_stopped, one_taken}
-use Rattle.hv_phases.proofs.in_threads.take_back.Goals as goal
+use Rattle.std.proofs.Common.{◌≡◌, ◌≤◌, ◌<◌, ◌++◌, ◌∷◌, ◌∙◌, ℕ, All, List, [], ap, append-nil, append_assoc, arith, drop, get_or, length, map, not, rules}
+use Rattle.std.proofs.Common.{subst, sym, true}
+use Rattle.std.proofs.lemmas.Bool.{false≢true}
+use Rattle.std.proofs.lemmas.List.Elements.{All-head, All-nil}
+use Rattle.hv_phases.proofs.AskedOfProcessor.{All-second}
+use Rattle.hv_phases.proofs.OutcomesTaken.{finished_more, one_fewer, still_all, taken_more, within_more}
+use Rattle.hv_phases.proofs.RunnerMaps.{back_none}
+use Rattle.hv_phases.specs.PassMap.{HasBack, HasKey, IsWithin, back_of_done, stop_of}
 use Rattle.hv_shared.specs.Receipts.{list_of}
+use Rattle.hv_threads.specs.declared.phase.Done.{Done}
+use Rattle.hv_threads.specs.declared.phase.End.TheVariants.{Finished}
+use Rattle.hv_phases.proofs.in_threads.take_back.Goals as goal
+use Rattle.hv_phases.proofs.in_threads.take_back.Goals.{else-goes_on, in-Finished, in-Host, in-None, in-Some-highest_above, then-goes_on}
 
 pub loop-done-init : goal.loop-done-init
-loop-done-init g c = record { room = omega arith; back = none_taken c.args.order.now c.args.dones.items c.args.counts.now c.args.last c.args.pass_map.now }
+loop-done-init g c = record {
+  back = ([], append-nil c.args.dones.items, back_none c.args.runners.now, λ goes. All-nil (λ (d : Done g.row.L.Denot). d.end ≡ Finished));
+  room = omega arith;
+  rises = omega arith;
+  within = λ same k d low less. absurd (omega (arith, low, less));
+}
 
-pub loop-done-preserved-in-Finished-Ok-Some : goal.loop-done-preserved-in-Finished-Ok-Some
-loop-done-preserved-in-Finished-Ok-Some g c =
-    let so_far = c.loop-done.invariant.back in
+pub put_pass-requires : goal.put_pass-requires
+put_pass-requires g c =
+    let was = c.loop-done.invariant.back in
     let done = c.in-Some.done in
+    let P = λ (d : Done g.row.L.Denot). HasKey c.args.runners.now d.pass.caller in
     let rest = c.pop.new.self.items in
-    let arm = c.in-Finished-Ok-Some in
-    let counts = c.args.counts.now in
-    let k = c.len.result in
-    let popped : c.loop-done.left.items ≡ rest ++ done ∷ [] = c.in-Some.ensures.items in
-    let joined : HasJoined done.pass c.loop-done.pass_map c.join.new.pass_map = rw arm.is-1 at c.join.ensures.joined in
-    let found = rw arm.is-2 at c.highest_above-highest.ensures in
-    let here : length rest ≡ k = omega arith in
-    let next : suc k ≡ length c.loop-done.left.items = omega (arith, ap length popped, length-append rest (done ∷ [])) in
-    let more : drop (length rest) counts ≡ get_or counts k 0 ∷ drop (length c.loop-done.left.items) counts =
-    ap (λ (i : ℕ). drop i counts) here ∙ drop-cons counts k 0 (omega (arith, next, c.loop-done.invariant.room)) ∙ ap (λ (i : ℕ). get_or counts k 0 ∷ drop i counts) next in
-    record {
-      room = omega (arith, here, next, c.loop-done.invariant.room);
-      back = one_taken c.args.order.now c.args.dones.items counts c.args.last c.args.pass_map.now _ rest done _ _ _ _ _ c.loop-done.stop _ c.loop-done.differs so_far popped c.join.ensures.from
-          (λ none same. subst (λ (ns : List ℕ). HasTaken (done ∷ so_far.back) ns c.args.last arm.number c.args.pass_map.now c.join.new.pass_map) (sym more)
-          (taken_more done (get_or counts k 0) so_far.back (drop (length c.loop-done.left.items) counts) c.args.last
-          c.loop-done.now arm.number c.args.pass_map.now c.loop-done.pass_map c.join.new.pass_map
-          (list_of c.receipts.result.now) (so_far.taken none same) joined arm.is-0 c.receipts.ensures found))
-          (noted_finished c.args.order.now done so_far.back c.loop-done.stop arm.is-0 so_far.noted);
-    }
+    let all : rest ++ done ∷ was.0 ≡ c.args.dones.items = sym (append_assoc rest (done ∷ []) was.0)
+    ∙ ap (λ (l : List (Done g.row.L.Denot)). l ++ was.0) (sym c.in-Some.ensures.items) ∙ was.1 in
+    was.2.keys done.pass.caller (All-head P done was.0 (All-second P rest (done ∷ was.0) (subst (All P) (sym all) c.requires.keys)))
 
-pub loop-done-preserved-in-Finished-Ok-None : goal.loop-done-preserved-in-Finished-Ok-None
-loop-done-preserved-in-Finished-Ok-None g c =
-    let so_far = c.loop-done.invariant.back in
-    let done = c.in-Some.done in
-    let rest = c.pop.new.self.items in
-    let popped : c.loop-done.left.items ≡ rest ++ done ∷ [] = c.in-Some.ensures.items in
-    record {
-      room = omega (arith, ap length popped, length-append rest (done ∷ []), c.loop-done.invariant.room);
-      back = one_taken c.args.order.now c.args.dones.items c.args.counts.now c.args.last c.args.pass_map.now c.loop-done.left.items rest done c.loop-done.now c.loop-done.now c.loop-done.pass_map
-          c.join.new.pass_map c.loop-done.stop c.loop-done.stop c.loop-done.differs true so_far popped c.join.ensures.from (λ none same. absurd (let other : true ≡ false = same in cc))
-          (noted_finished c.args.order.now done so_far.back c.loop-done.stop c.in-Finished-Ok-None.is-0 so_far.noted);
-    }
-
-pub loop-done-preserved-in-Finished-Err-default : goal.loop-done-preserved-in-Finished-Err-default
-loop-done-preserved-in-Finished-Err-default g c =
-    let so_far = c.loop-done.invariant.back in
-    let done = c.in-Some.done in
-    let rest = c.pop.new.self.items in
-    let popped : c.loop-done.left.items ≡ rest ++ done ∷ [] = c.in-Some.ensures.items in
-    record {
-      room = omega (arith, ap length popped, length-append rest (done ∷ []), c.loop-done.invariant.room);
-      back = one_taken c.args.order.now c.args.dones.items c.args.counts.now c.args.last c.args.pass_map.now c.loop-done.left.items rest done c.loop-done.now c.loop-done.now c.loop-done.pass_map
-          c.join.new.pass_map c.loop-done.stop (Some c.first_of.result) c.loop-done.differs c.loop-done.differs so_far popped c.join.ensures.from (λ none same. absurd (let other = none in cc))
-          (noted_stopped c.args.order.now done so_far.back c.loop-done.stop _ c.first_of.result (sym c.caller-by.ensures) (inr refl) c.first_of.ensures.one c.first_of.ensures.not_after
-          c.first_of.ensures.first so_far.noted);
-    }
+pub returns-then-is_in_order-clause-back : goal.returns-then-is_in_order-clause-back
+returns-then-is_in_order-clause-back g c =
+    let was = c.loop-done.invariant.back in
+    let none : c.loop-done.left.items ≡ [] = search rules in
+    subst (λ (l : List (Done g.row.L.Denot)). HasBack (map back_of_done l) c.args.runners.now c.loop-done.runners)
+    (ap (λ (l : List (Done g.row.L.Denot)). l ++ was.0) (sym none) ∙ was.1) was.2
 
 pub loop-done-preserved : goal.loop-done-preserved
 loop-done-preserved g c =
-    let so_far = c.loop-done.invariant.back in
+    let l = c.loop-done in
+    let was = l.invariant.back in
     let done = c.in-Some.done in
     let rest = c.pop.new.self.items in
-    let popped : c.loop-done.left.items ≡ rest ++ done ∷ [] = c.in-Some.ensures.items in
+    let all = c.args.dones.items in
+    let counts = c.args.counts.now in
+    let last = c.args.last in
+    let high = c.match-highest_above.now in
+    let popped : l.left.items ≡ rest ++ done ∷ [] = c.in-Some.ensures.items in
+    let stop = c.match-end.stop in
+    let stop_is : stop ≡ stop_of done.end = elim c.match-end.branch [
+      | in-Finished w ↦ w.stop-is ∙ sym (ap stop_of w.in-Finished.is)
+      | in-Host w ↦ w.stop-is ∙ sym (ap stop_of w.in-Host.is)
+    ] in
+    let fewer = one_fewer all l.left.items rest was.0 done popped was.1 in
+    let put = c.put_pass.ensures in
+    let place : c.len.result ≡ length rest = omega (arith, c.len.ensures) in
+    let rose = l.invariant.rises in
+    let rises : last ≤ high = elim c.match-highest_above.branch [
+      | in-Some-highest_above w ↦ let up = w.in-Some-highest_above.ensures.0 in let is = w.now-is in omega (arith, up, is, rose)
+      | in-None w ↦ let is = w.now-is in omega (arith, is, rose)
+    ] in
+    let within : c.match-highest_above.is_in_order ≡ true → (k : ℕ) (d : Done g.row.L.Denot) → length rest ≤ k → k < length all
+    → All (IsWithin last high) (drop (get_or counts k 0) (get_or all k d).pass.receipts) = elim c.match-highest_above.branch [
+      | in-Some-highest_above w ↦ λ ok.
+          subst (λ (n : ℕ). (k : ℕ) (d : Done g.row.L.Denot) → length rest ≤ k → k < length all
+          → All (IsWithin last n) (drop (get_or counts k 0) (get_or all k d).pass.receipts)) (sym w.now-is)
+          (within_more all l.left.items rest was.0 done popped was.1 counts last l.now w.in-Some-highest_above.number (get_or counts c.len.result 0)
+          (list_of c.receipts.result.now)
+          w.in-Some-highest_above.ensures.0 w.in-Some-highest_above.ensures.1 c.receipts.ensures (ap (λ (n : ℕ). get_or counts n 0) place)
+          (l.invariant.within (sym w.is_in_order-is ∙ ok)))
+      | in-None w ↦ λ ok. absurd (false≢true (sym w.is_in_order-is ∙ ok))
+    ] in
+    let finished : c.if-goes_on.goes_on ≡ true → All (λ (d : Done g.row.L.Denot). d.end ≡ Finished) (done ∷ was.0) = elim c.if-goes_on.branch [
+      | then-goes_on w ↦ λ goes.
+          finished_more all l.left.items rest was.0 done popped was.1 stop stop_is (w.is_none-goes_on.ensures ∙ ap not (sym w.goes_on-is ∙ goes))
+          (was.3 w.if-goes_on.true)
+      | else-goes_on w ↦ λ goes. absurd (false≢true (sym w.if-goes_on.false ∙ sym w.goes_on-is ∙ goes))
+    ] in
     record {
-      room = omega (arith, ap length popped, length-append rest (done ∷ []), c.loop-done.invariant.room);
-      back = one_taken c.args.order.now c.args.dones.items c.args.counts.now c.args.last c.args.pass_map.now c.loop-done.left.items rest done c.loop-done.now c.loop-done.now c.loop-done.pass_map
-          c.join.new.pass_map c.loop-done.stop (Some c.first_of-in-Host-default-default.result) c.loop-done.differs c.loop-done.differs
-          so_far popped c.join.ensures.from (λ none same. absurd (let other = none in cc))
-          (noted_stopped c.args.order.now done so_far.back c.loop-done.stop _ c.first_of-in-Host-default-default.result (sym c.caller-by.ensures) (inl c.in-Host-default-default.is-0)
-          c.first_of-in-Host-default-default.ensures.one c.first_of-in-Host-default-default.ensures.not_after
-          c.first_of-in-Host-default-default.ensures.first so_far.noted);
+      back = (
+        done ∷ was.0,
+        still_all all l.left.items rest was.0 done popped was.1,
+        taken_more all l.left.items rest was.0 done popped was.1 c.args.runners.now l.runners c.put_pass.new.runners stop stop_is was.2 put.own put.others
+            put.keys,
+        finished,
+      );
+      room = let room = l.invariant.room in omega (arith, room, fewer);
+      rises = rises;
+      within = within;
     }

@@ -1,23 +1,36 @@
-use Rattle.std.proofs.Common.{List, Some, arith, sym, subst, ◌∙◌, ◌+◌, take_all}
-use Rattle.hv_phases.proofs.ProcessorMaps.{found_at}
-use Rattle.hv_phases.proofs.PassMaps.{AreSent, none_sent, one_sent}
-use Rattle.hv_phases.proofs.pass_map.leave.Goals as goal
+use Rattle.std.proofs.Common.{◌<◌, ◌≤◌, ◌+◌, ◌∙◌, List, arith, length, refl, subst, sym}
+use Rattle.std.proofs.lemmas.Option.{none-some}
+use Rattle.hv_phases.proofs.PassesLeft.{AreLeft, all_left, none_left, one_left}
 use Rattle.hv_shared.specs.PassValue.{PassValue}
+use Rattle.hv_phases.proofs.pass_map.leave.Goals as goal
 
 pub loop-at-init : goal.loop-at-init
-loop-at-init g c = none_sent c.args.pass_map c.args.callers.now c.args.passes.now.items c.requires
+loop-at-init g c = record { left = none_left c.args.runners c.args.callers.now c.args.passes.now.items c.requires.empty; room = refl }
+
+pub unreachable-requires : goal.unreachable-requires
+unreachable-requires g c =
+    let at = c.loop-at.at in
+    let less : at < length c.args.callers.now = omega (arith, c.loop-at-test.true) in
+    let low : c.loop-at.at ≤ c.loop-at.at = omega arith in
+    let has = c.requires.there at _ less in
+    absurd (none-some has.0 (c.in_default.ensures.value ∙ c.loop-at.invariant.left.rest at _ low less ∙ has.1))
+
+pub push_reserved-requires : goal.push_reserved-requires
+push_reserved-requires g c =
+    let count = c.loop-at.invariant.left.count in
+    let room = c.loop-at.invariant.room in
+    omega (arith, c.loop-at-test.true, count, room, c.requires.room)
 
 pub loop-at-preserved : goal.loop-at-preserved
-loop-at-preserved g c =
-    let callers = c.args.callers.now in
-    let now = c.loop-at.pass_map in
-    let new = c.swap_remove.new.self in
-    let pass = c.in-Some.pass in
-    subst (λ (ps : List PassValue). AreSent c.args.pass_map callers (c.loop-at.at + 1) ps new) (sym c.in_ok-push.ensures.items)
-    (one_sent c.args.pass_map callers c.loop-at.at _ (omega (arith, c.loop-at-test.true)) c.loop-at.passes.items now new pass c.key_of.result c.key_of.ensures c.loop-at.invariant
-    (found_at _ c.key_of.result c.key_of.ensures now (Some pass) c.in-Some.ensures.value) c.swap_remove.ensures.updates)
+loop-at-preserved g c = record {
+  left = subst (λ (ps : List PassValue). AreLeft c.args.runners c.args.callers.now (c.loop-at.at + 1) ps c.take_pass.new.runners)
+      (sym c.push_reserved.ensures.items)
+      (one_left c.args.runners c.args.callers.now c.loop-at.at _ c.loop-at.passes.items c.in-Some.pass c.loop-at.runners c.take_pass.new.runners
+      (omega (arith, c.loop-at-test.true))
+      c.requires.different c.loop-at.invariant.left c.in-Some.ensures.value c.take_pass.ensures.others);
+  room = c.push_reserved.ensures.capacity ∙ c.loop-at.invariant.room;
+}
 
-pub returns-clause-back : goal.returns-clause-back
-returns-clause-back g c = λ past each.
-    let w = c.loop-at.invariant.back past each in
-    (w.1 ∙ take_all c.loop-at.at c.args.callers.now (omega (arith, c.loop-at-test.false)), w.2)
+pub returns : goal.returns
+returns g c = all_left c.args.runners c.args.callers.now c.loop-at.at c.loop-at.passes.items c.loop-at.runners (omega (arith, c.loop-at-test.false))
+    c.loop-at.invariant.left
