@@ -3,7 +3,7 @@
 //!
 //! Calls, MSRs and privileges have the names of the TLFS 4.0. The sentences and the order of the fields are
 //! this project's own; `docs/PROGRAM.md` describes the form. [`Words`] is the buffer that a text is built in.
-//! It never has a line feed.
+//! It never has a line feed, or another byte that ends a string of JSON, or a text or an attribute of XML.
 //!
 //! [`push_event`] adds the text of one event with its answer, and [`push_reason`] says why an event was
 //! refused: the rule that failed, and the values that decided. They read the values from the partitions after

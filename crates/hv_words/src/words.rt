@@ -1,15 +1,16 @@
 // The buffer of a text.
-ghost use Rattle.std.specs.Prelude.{◌≡◌, ◌<◌, []};
-ghost use Rattle.hv_words.specs.Words.{IsPlain};
+ghost use Rattle.std.specs.Prelude.{◌≡◌, ◌<◌, [], true};
+ghost use Rattle.hv_words.specs.Words.{IsPlain, IsQuotable, StandsForItself};
 
 use arrayvec::ArrayVec;
 use hv_defs::SELF_ID;
 use itoa::Buffer;
 use std::marker::Model;
 
-/// A buffer in which a text is built, without a line feed. It takes no memory.
+/// A buffer in which a text is built, for a line and for quotes. It takes no memory.
 ///
-/// Bytes past 2,048 are left out. The text of an event has fewer.
+/// It has printable ASCII without `"`, `&`, `<` and `\`. All other bytes are left out, and so are those past
+/// 2,048. The text of an event has none of them.
 #[derive(Drop)]
 pub struct Words {
     bytes: ArrayVec<u8, 2048>,
@@ -17,13 +18,13 @@ pub struct Words {
 
 impl Model for Words {
     ghost use Rattle.std.specs.Prelude.{List, ℕ};
-    ghost use Rattle.hv_words.specs.Words.{IsPlain};
+    ghost use Rattle.hv_words.specs.Words.{IsQuotable};
 
     ghost Value = { List ℕ };
 
     ghost view = { λ w. w.bytes.items };
 
-    ghost invariant = { λ w. IsPlain w.bytes.items };
+    ghost invariant = { λ w. IsQuotable w.bytes.items };
 }
 
 impl Words {
@@ -47,6 +48,7 @@ impl Words {
     pub fn as_slice(&self) -> &[u8]
         ensures bytes { result.now ≡ self.now }
         ensures plain { IsPlain self.now }
+        ensures quotable { IsQuotable self.now }
     {
         self.bytes.as_slice()
     }
@@ -100,11 +102,21 @@ impl Words {
         }
     }
 
-    // Adds a byte, unless it is a line feed or there is no room.
+    // Adds a byte, if it stands for itself and there is room.
     fn push(&mut self, byte: u8) {
-        if byte != b'\n' {
+        if stands_for_itself(byte) {
             let _ = self.bytes.try_push(byte);
         }
+    }
+}
+
+// Returns whether a byte stands for itself in JSON and in XML.
+fn stands_for_itself(byte: u8) -> bool
+    ensures { result ≡ true → StandsForItself byte }
+{
+    match byte {
+        b'"' | b'&' | b'<' | b'\\' => false,
+        _ => b' ' <= byte && byte <= b'~',
     }
 }
 

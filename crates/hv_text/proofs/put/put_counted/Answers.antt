@@ -3,8 +3,8 @@ use Rattle.std.proofs.KnownBytes.{Appends-trans}
 use Rattle.std.proofs.lemmas.Bool.Decides.{nat_tests}
 use Rattle.std.proofs.lemmas.List.{nil_from_length, take_rest}
 use Rattle.hv_text.proofs.WrittenText.{sent-more, sent-part, sent-same}
-use Rattle.hv_text.proofs.put.put.Goals as goal
-use Rattle.hv_text.proofs.put.put.Goals.{in-Ok, in-Err+else-ne}
+use Rattle.hv_text.proofs.put.put_counted.Goals as goal
+use Rattle.hv_text.proofs.put.put_counted.Goals.{in-Ok, in-Err+else-ne}
 
 pub loop-preserved : goal.loop-preserved
 loop-preserved g c =
