@@ -13,19 +13,35 @@ use Rattle.hv_options.specs.declared.usage.Command.TheVariants as command
 abbrev pub audit_rule : Bool → Rule
 audit_rule required = record (new_rule (codes "AUDIT")) { required = required }
 
+-- a command that takes a script, with the flag `--names`
+abbrev pub with_names : App → App
+with_names line = with_rule line (flag_rule (codes "names"))
+
+-- `run SCRIPT --serial --table --names`
+abbrev pub named_run_line : App
+named_run_line = with_names run_line
+
 -- `check SCRIPT AUDIT --prefix --no-rules`
-abbrev pub check_line : App
-check_line = with_rule (with_rule (with_rule (with_rule (new_app (codes "check")) script_rule)
+abbrev pub comparing_line : App
+comparing_line = with_rule (with_rule (with_rule (with_rule (new_app (codes "check")) script_rule)
     (audit_rule true)) (flag_rule (codes "prefix"))) (flag_rule (codes "no-rules"))
 
--- `explain SCRIPT AUDIT`
-abbrev pub explain_line : App
-explain_line = with_rule (with_rule (new_app (codes "explain")) script_rule) (audit_rule false)
+-- and with `--json --names`
+abbrev pub check_line : App
+check_line = with_names (with_rule comparing_line (flag_rule (codes "json")))
 
--- `trace SCRIPT AUDIT --perfetto`
+-- `explain SCRIPT AUDIT --names`
+abbrev pub explain_line : App
+explain_line = with_names (with_rule (with_rule (new_app (codes "explain")) script_rule) (audit_rule false))
+
+-- `trace SCRIPT AUDIT --perfetto --names`
 abbrev pub trace_line : App
-trace_line = with_rule (with_rule (with_rule (new_app (codes "trace")) script_rule) (audit_rule false))
-    (flag_rule (codes "perfetto"))
+trace_line = with_names (with_rule (with_rule (with_rule (new_app (codes "trace")) script_rule)
+    (audit_rule false)) (flag_rule (codes "perfetto")))
+
+-- `report SCRIPT AUDIT --names`
+abbrev pub report_line : App
+report_line = with_names (with_rule (with_rule (new_app (codes "report")) script_rule) (audit_rule false))
 
 -- `serve --json`
 abbrev pub serve_line : App
@@ -35,10 +51,10 @@ serve_line = with_rule (new_app (codes "serve")) (flag_rule (codes "json"))
 abbrev pub at_rule : Rule
 at_rule = record (new_rule (codes "at")) { long = Some (codes "at"); value_names = 1 }
 
--- `draw SCRIPT --at N --sequence`
+-- `draw SCRIPT --at N --sequence --names`
 abbrev pub draw_line : App
-draw_line = with_rule (with_rule (with_rule (new_app (codes "draw")) script_rule) at_rule)
-    (flag_rule (codes "sequence"))
+draw_line = with_names (with_rule (with_rule (with_rule (new_app (codes "draw")) script_rule) at_rule)
+    (flag_rule (codes "sequence")))
 
 -- the argument FILE, which is required
 abbrev pub file_rule : Rule
@@ -50,8 +66,8 @@ asm_line = with_rule (new_app (codes "asm")) file_rule
 
 -- a command line, with the commands that read a script, or an audit beside it
 abbrev pub with_audits : App → App
-with_audits line = with_subcommand (with_subcommand (with_subcommand (with_subcommand line run_line.top)
-    check_line.top) explain_line.top) trace_line.top
+with_audits line = with_subcommand (with_subcommand (with_subcommand (with_subcommand (with_subcommand line
+    named_run_line.top) check_line.top) explain_line.top) trace_line.top) report_line.top
 
 -- and with the others
 abbrev pub with_others : App → App
@@ -64,23 +80,28 @@ program_line = with_others (with_audits bare_line)
 
 -- a request: a command, with the names of its files and its flags
 pub data Asked : Type 0 where
-  Run : (script : Text) (serial table : Bool) → Asked
-  Check : (script audit : Text) (prefix rules : Bool) → Asked
-  Explain : (script : Text) (audit : Option Text) → Asked
-  Trace : (script : Text) (audit : Option Text) (perfetto : Bool) → Asked
+  Run : (script : Text) (serial table names : Bool) → Asked
+  Check : (script audit : Text) (prefix rules json names : Bool) → Asked
+  Explain : (script : Text) (audit : Option Text) (names : Bool) → Asked
+  Trace : (script : Text) (audit : Option Text) (perfetto names : Bool) → Asked
+  Report : (script : Text) (audit : Option Text) (names : Bool) → Asked
   Serve : (json : Bool) → Asked
-  Draw : (script : Text) (at : Option Text) (sequence : Bool) → Asked
+  Draw : (script : Text) (at : Option Text) (sequence names : Bool) → Asked
   Asm : (file : Text) → Asked
 
 -- the request of a command
 abbrev pub asked_for : Command → Asked
-asked_for (command.Run options) = Run options.script.now options.serial options.table
-asked_for (command.Check script audit prefix rules) = Check script.now audit.now prefix rules
-asked_for (command.Explain script audit) = Explain script.now (option_map (λ name. name.now) audit)
-asked_for (command.Trace script audit perfetto) = Trace script.now (option_map (λ name. name.now) audit)
-    perfetto
+asked_for (command.Run options names) = Run options.script.now options.serial options.table names
+asked_for (command.Check script audit prefix rules json names) = Check script.now audit.now prefix rules json
+    names
+asked_for (command.Explain script audit names) = Explain script.now (option_map (λ name. name.now) audit)
+    names
+asked_for (command.Trace script audit perfetto names) = Trace script.now
+    (option_map (λ name. name.now) audit) perfetto names
+asked_for (command.Report script audit names) = Report script.now (option_map (λ name. name.now) audit) names
 asked_for (command.Serve json) = Serve json
-asked_for (command.Draw script at sequence) = Draw script.now (option_map (λ number. number.now) at) sequence
+asked_for (command.Draw script at sequence names) = Draw script.now
+    (option_map (λ number. number.now) at) sequence names
 asked_for (command.Asm file) = Asm file.now
 
 -- what the arguments of each command ask for. A flag that was given has the value `true`
@@ -91,27 +112,32 @@ abbrev pub audit_in : List Row → Option Text
 audit_in rows = first_of (codes "AUDIT") rows
 
 abbrev pub run_by : List Row → Option Asked
-run_by rows = option_map (λ script.
-    Run script (is_given (codes "serial") rows) (is_given (codes "table") rows)) (script_in rows)
+run_by rows = option_map (λ script. Run script (is_given (codes "serial") rows)
+    (is_given (codes "table") rows) (is_given (codes "names") rows)) (script_in rows)
 
 abbrev pub check_by : List Row → Option Asked
 check_by rows = option_and_then (λ script. option_map (λ audit.
-    Check script audit (is_given (codes "prefix") rows) (not (is_given (codes "no-rules") rows)))
-    (audit_in rows)) (script_in rows)
+    Check script audit (is_given (codes "prefix") rows) (not (is_given (codes "no-rules") rows))
+    (is_given (codes "json") rows) (is_given (codes "names") rows)) (audit_in rows)) (script_in rows)
 
 abbrev pub explain_by : List Row → Option Asked
-explain_by rows = option_map (λ script. Explain script (audit_in rows)) (script_in rows)
+explain_by rows = option_map (λ script. Explain script (audit_in rows) (is_given (codes "names") rows))
+    (script_in rows)
 
 abbrev pub trace_by : List Row → Option Asked
-trace_by rows = option_map (λ script. Trace script (audit_in rows) (is_given (codes "perfetto") rows))
+trace_by rows = option_map (λ script. Trace script (audit_in rows) (is_given (codes "perfetto") rows)
+    (is_given (codes "names") rows)) (script_in rows)
+
+abbrev pub report_by : List Row → Option Asked
+report_by rows = option_map (λ script. Report script (audit_in rows) (is_given (codes "names") rows))
     (script_in rows)
 
 abbrev pub serve_by : List Row → Asked
 serve_by rows = Serve (is_given (codes "json") rows)
 
 abbrev pub draw_by : List Row → Option Asked
-draw_by rows = option_map (λ script.
-    Draw script (first_of (codes "at") rows) (is_given (codes "sequence") rows)) (script_in rows)
+draw_by rows = option_map (λ script. Draw script (first_of (codes "at") rows)
+    (is_given (codes "sequence") rows) (is_given (codes "names") rows)) (script_in rows)
 
 abbrev pub asm_by : List Row → Option Asked
 asm_by rows = option_map (λ file. Asm file) (first_of (codes "FILE") rows)
@@ -123,9 +149,10 @@ asked_by_rows name rows =
     else (if bytes_eq name (codes "check") then check_by rows
     else (if bytes_eq name (codes "explain") then explain_by rows
     else (if bytes_eq name (codes "trace") then trace_by rows
+    else (if bytes_eq name (codes "report") then report_by rows
     else (if bytes_eq name (codes "serve") then Some (serve_by rows)
     else (if bytes_eq name (codes "draw") then draw_by rows
-    else (if bytes_eq name (codes "asm") then asm_by rows else None))))))
+    else (if bytes_eq name (codes "asm") then asm_by rows else None)))))))
 
 abbrev pub asked_by_entered : Option (Text × List Row) → Option Asked
 asked_by_entered entered = option_and_then (λ e. asked_by_rows e.0 e.1) entered

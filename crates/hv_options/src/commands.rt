@@ -1,13 +1,15 @@
 // The command line of the whole program, and the command that its words ask for.
-ghost use Rattle.std.specs.Prelude.{◌≡◌, [], Some, false, map, IfOk, IfErr, OnOk, option_map};
+ghost use Rattle.std.specs.Prelude.{◌≡◌, [], Some, codes, false, map, IfOk, IfErr, OnOk, option_map};
 ghost use Rattle.clap.specs.Words.{app_of, first_of, found_of, rows_of, rule_of};
 ghost use Rattle.clap.specs.declared.builder.command.Command.TheViews.{out-Command as fields_of};
 ghost use Rattle.hv_options.specs.Options.{Explains, flag_rule};
 ghost use Rattle.hv_options.specs.Commands.{Asked, asked_by, asked_by_matches, asked_by_rows, asked_for};
 ghost use Rattle.hv_options.specs.Commands.{asm_by, asm_line, at_rule, audit_rule, check_by, check_line};
+ghost use Rattle.hv_options.specs.Commands.{comparing_line};
 ghost use Rattle.hv_options.specs.Commands.{draw_by, draw_line, explain_by, explain_line, file_rule};
-ghost use Rattle.hv_options.specs.Commands.{program_faults, program_line, run_by, serve_by, serve_line};
-ghost use Rattle.hv_options.specs.Commands.{trace_by, trace_line, with_audits, with_others};
+ghost use Rattle.hv_options.specs.Commands.{named_run_line, program_faults, program_line, report_by};
+ghost use Rattle.hv_options.specs.Commands.{report_line, run_by, serve_by, serve_line, trace_by, trace_line};
+ghost use Rattle.hv_options.specs.Commands.{with_audits, with_others};
 
 use crate::command_line::{VERSION, flag, is_given, refusal, run_command, script_argument};
 use crate::usage::{Command, Options, Usage};
@@ -50,14 +52,16 @@ fn program_line<'a>(alloc: Global) -> Result<Line<'a>, AllocError>
 fn with_audits<'a>(alloc: Global, line: Line<'a>) -> Result<Line<'a>, AllocError>
     ensures { IfOk result (λ c. app_of c ≡ with_audits (app_of line.entry)) }
 {
-    let run = run_command(alloc)?;
+    let run = named_run_command(alloc)?;
     let line = line.subcommand(run)?;
     let check = check_command(alloc)?;
     let line = line.subcommand(check)?;
     let explain = explain_command(alloc)?;
     let line = line.subcommand(explain)?;
     let trace = trace_command(alloc)?;
-    line.subcommand(trace)
+    let line = line.subcommand(trace)?;
+    let report = report_command(alloc)?;
+    line.subcommand(report)
 }
 
 // Adds the other commands.
@@ -72,8 +76,27 @@ fn with_others<'a>(alloc: Global, line: Line<'a>) -> Result<Line<'a>, AllocError
     line.subcommand(asm)
 }
 
+// The subcommand `run`, whose script may be by names.
+fn named_run_command<'a>(alloc: Global) -> Result<Line<'a>, AllocError>
+    ensures shape { IfOk result (λ c. app_of c ≡ named_run_line) }
+    ensures local { IfOk result (λ c. (fields_of c).has_globals ≡ false) }
+{
+    let run = run_command(alloc)?;
+    run.arg(names_flag(alloc))
+}
+
 fn check_command<'a>(alloc: Global) -> Result<Line<'a>, AllocError>
     ensures shape { IfOk result (λ c. app_of c ≡ check_line) }
+    ensures local { IfOk result (λ c. (fields_of c).has_globals ≡ false) }
+{
+    let check = comparing_command(alloc)?;
+    let check = check.arg(flag(alloc, "json", "Print the verdict as JSON"))?;
+    check.arg(names_flag(alloc))
+}
+
+// The subcommand `check` with what it compares.
+fn comparing_command<'a>(alloc: Global) -> Result<Line<'a>, AllocError>
+    ensures shape { IfOk result (λ c. app_of c ≡ comparing_line) }
     ensures local { IfOk result (λ c. (fields_of c).has_globals ≡ false) }
 {
     Line::new(alloc, "check")
@@ -95,7 +118,8 @@ fn explain_command<'a>(alloc: Global) -> Result<Line<'a>, AllocError>
             alloc,
             false,
             "An audit whose order the events take, or - for standard input",
-        ))
+        ))?
+        .arg(names_flag(alloc))
 }
 
 fn trace_command<'a>(alloc: Global) -> Result<Line<'a>, AllocError>
@@ -114,7 +138,23 @@ fn trace_command<'a>(alloc: Global) -> Result<Line<'a>, AllocError>
             alloc,
             "perfetto",
             "Print one trace for Perfetto or chrome://tracing",
-        ))
+        ))?
+        .arg(names_flag(alloc))
+}
+
+fn report_command<'a>(alloc: Global) -> Result<Line<'a>, AllocError>
+    ensures shape { IfOk result (λ c. app_of c ≡ report_line) }
+    ensures local { IfOk result (λ c. (fields_of c).has_globals ≡ false) }
+{
+    Line::new(alloc, "report")
+        .about("Runs a script, and prints its events as a page for a browser")
+        .arg(script_argument(alloc))?
+        .arg(audit_argument(
+            alloc,
+            false,
+            "An audit whose order the events take, or - for standard input",
+        ))?
+        .arg(names_flag(alloc))
 }
 
 fn serve_command<'a>(alloc: Global) -> Result<Line<'a>, AllocError>
@@ -138,7 +178,8 @@ fn draw_command<'a>(alloc: Global) -> Result<Line<'a>, AllocError>
             alloc,
             "sequence",
             "Print the messages and signals as a sequence chart in SVG",
-        ))
+        ))?
+        .arg(names_flag(alloc))
 }
 
 fn asm_command<'a>(alloc: Global) -> Result<Line<'a>, AllocError>
@@ -148,6 +189,18 @@ fn asm_command<'a>(alloc: Global) -> Result<Line<'a>, AllocError>
     Line::new(alloc, "asm")
         .about("Prints the script that a text with names of calls, fields and registers means")
         .arg(file_argument(alloc))
+}
+
+// The flag `--names` of a command that takes a script.
+fn names_flag<'a>(alloc: Global) -> Arg<'a>
+    ensures rule { rule_of result ≡ flag_rule (codes "names") }
+    ensures local { result.global ≡ false }
+{
+    flag(
+        alloc,
+        "names",
+        "Take a script whose lines may be by names, as asm does",
+    )
 }
 
 // The text of `asm`, which can't be left out.
@@ -203,6 +256,7 @@ fn read_named<'a>(name: &str, own: &ArgMatches<'a>) -> Option<Command<'a>>
         "check" => read_check(own),
         "explain" => read_explain(own),
         "trace" => read_trace(own),
+        "report" => read_report(own),
         "serve" => Some(read_serve(own)),
         "draw" => read_draw(own),
         "asm" => read_asm(own),
@@ -216,11 +270,15 @@ fn read_run<'a>(own: &ArgMatches<'a>) -> Option<Command<'a>>
     let script = value_in(own, "SCRIPT")?;
     let serial = is_given(own, "serial");
     let table = is_given(own, "table");
-    Some(Command::Run(Options {
-        script,
-        serial,
-        table,
-    }))
+    let names = is_given(own, "names");
+    Some(Command::Run {
+        options: Options {
+            script,
+            serial,
+            table,
+        },
+        names,
+    })
 }
 
 fn read_check<'a>(own: &ArgMatches<'a>) -> Option<Command<'a>>
@@ -230,11 +288,15 @@ fn read_check<'a>(own: &ArgMatches<'a>) -> Option<Command<'a>>
     let audit = value_in(own, "AUDIT")?;
     let prefix = is_given(own, "prefix");
     let rules = !is_given(own, "no-rules");
+    let json = is_given(own, "json");
+    let names = is_given(own, "names");
     Some(Command::Check {
         script,
         audit,
         prefix,
         rules,
+        json,
+        names,
     })
 }
 
@@ -243,7 +305,12 @@ fn read_explain<'a>(own: &ArgMatches<'a>) -> Option<Command<'a>>
 {
     let script = value_in(own, "SCRIPT")?;
     let audit = value_in(own, "AUDIT");
-    Some(Command::Explain { script, audit })
+    let names = is_given(own, "names");
+    Some(Command::Explain {
+        script,
+        audit,
+        names,
+    })
 }
 
 fn read_trace<'a>(own: &ArgMatches<'a>) -> Option<Command<'a>>
@@ -252,10 +319,25 @@ fn read_trace<'a>(own: &ArgMatches<'a>) -> Option<Command<'a>>
     let script = value_in(own, "SCRIPT")?;
     let audit = value_in(own, "AUDIT");
     let perfetto = is_given(own, "perfetto");
+    let names = is_given(own, "names");
     Some(Command::Trace {
         script,
         audit,
         perfetto,
+        names,
+    })
+}
+
+fn read_report<'a>(own: &ArgMatches<'a>) -> Option<Command<'a>>
+    ensures { option_map asked_for result ≡ report_by (rows_of (found_of own.now)) }
+{
+    let script = value_in(own, "SCRIPT")?;
+    let audit = value_in(own, "AUDIT");
+    let names = is_given(own, "names");
+    Some(Command::Report {
+        script,
+        audit,
+        names,
     })
 }
 
@@ -273,10 +355,12 @@ fn read_draw<'a>(own: &ArgMatches<'a>) -> Option<Command<'a>>
     let script = value_in(own, "SCRIPT")?;
     let at = value_in(own, "at");
     let sequence = is_given(own, "sequence");
+    let names = is_given(own, "names");
     Some(Command::Draw {
         script,
         at,
         sequence,
+        names,
     })
 }
 

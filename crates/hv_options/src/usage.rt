@@ -18,12 +18,17 @@ pub struct Options<'a> {
 
 /// The command that the words of the command line ask for, of all that the program has.
 ///
-/// The name of a script or an audit is the path of its file, or `-` for standard input.
+/// The name of a script or an audit is the path of its file, or `-` for standard input. With `names`, the
+/// lines of the script may be by names.
 #[derive(Clone, Copy, Debug)]
 pub enum Command<'a> {
-    /// `run SCRIPT [--serial] [--table]`: runs a script, and prints its audit.
-    Run(Options<'a>),
-    /// `check SCRIPT AUDIT [--prefix] [--no-rules]`: checks whether a run of the script may write the audit.
+    /// `run SCRIPT [--serial] [--table] [--names]`: runs a script, and prints its audit.
+    Run {
+        options: Options<'a>,
+        names: bool,
+    },
+    /// `check SCRIPT AUDIT [--prefix] [--no-rules] [--json] [--names]`: checks whether a run of the script
+    /// may write the audit.
     Check {
         script: &'a str,
         audit: &'a str,
@@ -31,33 +36,46 @@ pub enum Command<'a> {
         prefix: bool,
         /// Whether the names of rules are compared.
         rules: bool,
+        /// Whether the verdict is a line of JSON.
+        json: bool,
+        names: bool,
     },
-    /// `explain SCRIPT [AUDIT]`: describes the events of a script in words, in the order of an audit if one
-    /// is named.
+    /// `explain SCRIPT [AUDIT] [--names]`: describes the events of a script in words, in the order of an
+    /// audit if one is named.
     Explain {
         script: &'a str,
         audit: Option<&'a str>,
+        names: bool,
     },
-    /// `trace SCRIPT [AUDIT] [--perfetto]`: prints the events of a script with their effects as JSON, in the
-    /// order of an audit if one is named.
+    /// `trace SCRIPT [AUDIT] [--perfetto] [--names]`: prints the events of a script with their effects as
+    /// JSON, in the order of an audit if one is named.
     Trace {
         script: &'a str,
         audit: Option<&'a str>,
         /// Whether it is one trace in the Chrome trace event form.
         perfetto: bool,
+        names: bool,
+    },
+    /// `report SCRIPT [AUDIT] [--names]`: prints the events of a script as a page for a browser, in the order
+    /// of an audit if one is named.
+    Report {
+        script: &'a str,
+        audit: Option<&'a str>,
+        names: bool,
     },
     /// `serve [--json]`: answers each line of standard input at once.
     Serve {
         /// Whether each answer is a line of JSON.
         json: bool,
     },
-    /// `draw SCRIPT [--at N] [--sequence]`: prints a state of a script as a graph.
+    /// `draw SCRIPT [--at N] [--sequence] [--names]`: prints a state of a script as a graph.
     Draw {
         script: &'a str,
         /// The number of events before that state, as it was written. Without one, it is the last state.
         at: Option<&'a str>,
         /// Whether the messages and signals are drawn in place of a state.
         sequence: bool,
+        names: bool,
     },
     /// `asm FILE`: prints the script that a text with names means.
     Asm {

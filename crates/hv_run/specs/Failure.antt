@@ -1,5 +1,5 @@
 -- Which failure a script's error is, and the exit status of each.
-use Rattle.std.specs.Prelude.{◌≡◌, ◌⊎◌, ℕ, List, Ok, None}
+use Rattle.std.specs.Prelude.{◌≡◌, ◌⊎◌, ℕ, Bool, IsTrue, List, Ok, None}
 use Rattle.std.specs.declared.alloc.Global.{Global}
 use Rattle.hv_policy.specs.BootFault.{boot_fault}
 use Rattle.hv_policy.specs.declared.config.BootRefused.{BootRefused}
@@ -69,3 +69,7 @@ failure_by (unfinished.Settlement fault.Differs) = failure.Differs
 abbrev pub failure_of_print : PrintFault → Failure
 failure_of_print (print.Write written) = failure.Write
 failure_of_print print.Memory = failure.Memory
+
+-- why a text wasn't printed: the writer takes no more, or there is no memory for the table
+abbrev pub IsUnprinted : Bool → Failure → Type 0
+IsUnprinted with_table why = (why ≡ failure.Write) ⊎ (IsTrue with_table × (why ≡ failure.Memory))

@@ -4,7 +4,7 @@ use Rattle.std.specs.Io.KnownBytes.{Appends}
 use Rattle.std.specs.declared.alloc.Global.{Global}
 use Rattle.hv_history.specs.Kept.{Kept, IsRun}
 use Rattle.hv_history.specs.Row.{events_of}
-use Rattle.hv_phases.specs.Begun.{IsPart}
+use Rattle.hv_phases.specs.Begun.{IsSettledPart}
 use Rattle.hv_phases.specs.Lines.{AreInOrder, ArePhased, AreRun}
 use Rattle.hv_policy.specs.Step.{run}
 use Rattle.hv_script.specs.Script.{Said, script_of}
@@ -40,17 +40,19 @@ pub record HasPart (text : List ℕ) (old new : Option (List ℕ)) : Type 0 wher
   pub told : Appends old new (take count text)
 
 -- The writer got the first bytes of the audit of a history, and with `with_table` of its table. The history
--- is a run from the boot of the script that a text says, with at most as many events as its limit. Each
--- processor's events are a first part of what its lines ask for. If the settlement failed, the history is
--- some run, and has a first fault against receipts of which that holds.
-pub record HasWrittenKept (text : List ℕ) (with_table : Bool) (old new : Option (List ℕ)) : Type 0 where
-  pub said : Said Global
-  pub is : script_of text ≡ Ok said
-  pub kept : Kept Global
-  pub run : IsRun kept
-  pub part : IsPart said.config said.limit said.lines kept
-  pub told : HasPart (told_by with_table kept) old new
+-- is a run from the boot of the script that a text says, with at most as many events as its limit. Phases
+-- that came to their end are whole, and of the last one each processor's events are a first part of what its
+-- lines ask for.
+pub record HasWrittenKept (text : List ℕ) (serial with_table : Bool) (old new : Option (List ℕ)) : Type 0
+  where
+    pub said : Said Global
+    pub is : script_of text ≡ Ok said
+    pub kept : Kept Global
+    pub run : IsRun kept
+    pub part : IsSettledPart said.config said.limit serial said.lines kept
+    pub told : HasPart (told_by with_table kept) old new
 
--- the output of a run that failed: that of what is kept, or nothing if no machine was booted
-abbrev pub HasWrittenPart : List ℕ → Bool → Option (List ℕ) → Option (List ℕ) → Type 0
-HasWrittenPart text with_table old new = (new ≡ old) ⊎ HasWrittenKept text with_table old new
+-- the output of a run that failed: that of what is kept, or nothing if no machine was booted or the
+-- settlement found a fault
+abbrev pub HasWrittenPart : List ℕ → Bool → Bool → Option (List ℕ) → Option (List ℕ) → Type 0
+HasWrittenPart text serial with_table old new = (new ≡ old) ⊎ HasWrittenKept text serial with_table old new

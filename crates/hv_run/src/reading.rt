@@ -1,5 +1,5 @@
 // Reading a script's bytes.
-ghost use Rattle.std.specs.Prelude.{◌≡◌, ◌+◌, IfErr, IfOk, IfSome, take};
+ghost use Rattle.std.specs.Prelude.{◌≡◌, ◌+◌, IfOk, IfSome, take};
 ghost use Rattle.hv_script.specs.declared.script.TheConstants.{MOST_BYTES as MOST};
 ghost use Rattle.hv_run.specs.Failure.{IsUnread};
 
@@ -12,16 +12,13 @@ use std::io::{ErrorKind, Read};
 /// Reads all bytes of a script, or the first 1,048,577 of one that is too long.
 ///
 /// That is one byte too many, so a script that is too long is never taken for a shorter one.
-pub fn read_script<R: Read + Drop>(alloc: Global, reader: R) -> Result<Vec<u8>, Failure>
-    ensures bytes { IfOk result (λ script. IfSome (R.remaining reader) (λ text. script.items
+pub fn read_script<R: Read + Drop>(alloc: Global, reader: R) -> io::Result<Vec<u8>>
+    ensures { IfOk result (λ script. IfSome (R.remaining reader) (λ text. script.items
         ≡ take (MOST + 1) text)) }
-    ensures unread { IfErr result IsUnread }
 {
     let mut script = Vec::new(alloc);
-    match reader.take(MOST_BYTES as u64 + 1).read_to_end(&mut script) {
-        Ok(_) => Ok(script),
-        Err(error) => Err(unread(&error)),
-    }
+    reader.take(MOST_BYTES as u64 + 1).read_to_end(&mut script)?;
+    Ok(script)
 }
 
 /// Why a script can't be read: out of memory, or anything else.

@@ -1,15 +1,17 @@
 // A whole run, from the script's bytes to the exit status.
-ghost use Rattle.std.specs.Prelude.{◌≡◌, ◌≢◌, ◌<◌, length, Err, IfErr, IfSome, None, OnErr, OnOk};
+ghost use Rattle.std.specs.Prelude.{◌≡◌, ◌≢◌, ◌<◌, length, Err, IfErr, IfNone, IfSome, IsSome};
+ghost use Rattle.std.specs.Prelude.{None, OnErr, OnOk};
 ghost use Rattle.std.specs.Io.KnownBytes.{Appends};
 ghost use Rattle.hv_history.specs.Kept.{IsRun};
 ghost use Rattle.hv_script.specs.declared.script.TheConstants.{MOST_BYTES as MOST};
-ghost use Rattle.hv_run.specs.Failure.{CanRun, exit_of, failure_by};
+ghost use Rattle.hv_phases.specs.Begun.{error_of};
+ghost use Rattle.hv_run.specs.Failure.{CanRun, IsUnprinted, exit_of, failure_by};
 ghost use Rattle.hv_run.specs.Written.{HasPart, HasWritten, HasWrittenPart, told_by};
 
 use crate::failure::{Exit, Failure, tell};
 use hv_history::Kept;
 use hv_options::Options;
-use hv_phases::{RunError, run_lines};
+use hv_phases::{LinesDone, run_lines};
 use hv_script::{FaultKind, Script, parse};
 use hv_text::{audit, table};
 use hv_threads::{Gate, Open};
@@ -21,8 +23,8 @@ use std::thread::Threads;
 /// Runs a script and prints its audit on `out`, and with `--table` its table.
 ///
 /// If the script didn't all run, one line on `err` says why. After a fault of the script or a refused boot,
-/// nothing is written to `out`. A processor stops when the host refuses its event, and the others of its
-/// phase continue. The audit of what is kept is written then, too.
+/// nothing is written to `out`, nor after a fault of the settlement. A processor stops when the host refuses
+/// its event, and the others of its phase continue. The audit of what is kept is written then, too.
 pub fn run_text<T: Threads + Wait + Sync, W: Write, E: Write>(
     rt: &T,
     alloc: Global,
@@ -33,8 +35,8 @@ pub fn run_text<T: Threads + Wait + Sync, W: Write, E: Write>(
 ) -> Exit
     ensures told { result ≡ Exit.Done → HasWritten script.now options.now.serial options.now.table
         (W.contents out.old) (W.contents out.new) }
-    ensures unfinished { result ≡ Exit.Host → HasWrittenPart script.now options.now.table
-        (W.contents out.old) (W.contents out.new) }
+    ensures unfinished { result ≡ Exit.Host → HasWrittenPart script.now options.now.serial
+        options.now.table (W.contents out.old) (W.contents out.new) }
     ensures long { MOST < length script.now → result ≡ Exit.Script }
     ensures silent { result ≡ Exit.Script → out.new ≡ out.old }
     ensures faulty { result ≡ Exit.Script → CanRun script.now → ⊥ }
@@ -57,8 +59,8 @@ pub fn run_gated<T: Threads + Wait + Sync, G: Gate, W: Write, E: Write>(
 ) -> Exit
     ensures told { result ≡ Exit.Done → HasWritten script.now options.now.serial options.now.table
         (W.contents out.old) (W.contents out.new) }
-    ensures unfinished { result ≡ Exit.Host → HasWrittenPart script.now options.now.table
-        (W.contents out.old) (W.contents out.new) }
+    ensures unfinished { result ≡ Exit.Host → HasWrittenPart script.now options.now.serial
+        options.now.table (W.contents out.old) (W.contents out.new) }
     ensures long { MOST < length script.now → result ≡ Exit.Script }
     ensures silent { result ≡ Exit.Script → out.new ≡ out.old }
     ensures faulty { result ≡ Exit.Script → CanRun script.now → ⊥ }
@@ -81,8 +83,8 @@ fn run_script<T: Threads + Wait + Sync, G: Gate, W: Write>(
 ) -> Result<(), Failure>
     ensures told { OnOk result (HasWritten script.now options.now.serial options.now.table
         (W.contents out.old) (W.contents out.new)) }
-    ensures unfinished { OnErr result (HasWrittenPart script.now options.now.table (W.contents out.old)
-        (W.contents out.new)) }
+    ensures unfinished { OnErr result (HasWrittenPart script.now options.now.serial options.now.table
+        (W.contents out.old) (W.contents out.new)) }
     ensures long { MOST < length script.now → result ≡ Err (Failure.Fault 0 FaultKind.Long) }
     ensures silent { IfErr result (λ failure. exit_of failure ≡ Exit.Script → out.new ≡ out.old) }
     ensures faulty { IfErr result (λ failure. exit_of failure ≡ Exit.Script → CanRun script.now → ⊥) }
@@ -93,42 +95,44 @@ fn run_script<T: Threads + Wait + Sync, G: Gate, W: Write>(
         lines,
     } = parse(alloc, script)?;
     let kept = Kept::boot(alloc, config, limit)?;
-    let (kept, unfinished) = run_lines(rt, gate, kept, lines, options.serial);
-    print_run(&kept, unfinished, options.table, out)
+    let done = run_lines(rt, gate, kept, lines, options.serial);
+    print_run(&done, options.table, out)
 }
 
-/// Prints the audit of a run, and with `with_table` the table, whether or not its lines all ran.
+/// Prints what a run of lines left: the audit, and with `with_table` the table, whether or not they all ran.
 ///
-/// Why they didn't all run comes before output that couldn't be written.
-#[tactic(auto, using(crate::proofs::FailedWrites::run_fails))]
-pub fn print_run<W: Write>(
-    kept: &Kept<Global>,
-    unfinished: Option<RunError>,
-    with_table: bool,
-    out: &mut W,
-) -> Result<(), Failure>
-    ensures told { OnOk result ((unfinished ≡ None) × Appends (W.contents out.old) (W.contents out.new)
-        (told_by with_table kept.now)) }
-    ensures part { HasPart (told_by with_table kept.now) (W.contents out.old) (W.contents out.new) }
-    ensures why { IfSome unfinished (λ why. result ≡ Err (failure_by why)) }
+/// If the settlement found a fault, it prints nothing. Why the lines didn't all run comes before output that
+/// couldn't be written.
+pub fn print_run<W: Write>(done: &LinesDone, with_table: bool, out: &mut W) -> Result<(), Failure>
+    ensures told { OnOk result ((done.now.stop ≡ None) × (done.now.fault ≡ None)
+        × Appends (W.contents out.old) (W.contents out.new) (told_by with_table done.now.kept)) }
+    ensures part { IfNone done.now.fault (HasPart (told_by with_table done.now.kept) (W.contents out.old)
+        (W.contents out.new)) }
+    ensures unsettled { IsSome done.now.fault → out.new ≡ out.old }
+    ensures why { IfSome (error_of done.now.stop done.now.fault) (λ why. result ≡ Err (failure_by why)) }
+    ensures unprinted { error_of done.now.stop done.now.fault ≡ None
+        → IfErr result (IsUnprinted with_table) }
     ensures host { IfErr result (λ failure. exit_of failure ≡ Exit.Host) }
-    ensures run { IsRun kept.now }
+    ensures run { IsRun done.now.kept }
 {
-    let written = print(kept, with_table, out);
-    match unfinished {
-        Some(why) => Err(Failure::from(why)),
-        None => written,
+    // proof: the kept history is a run.
+    let _history = done.kept.history();
+    match (done.error(), done.fault) {
+        (None, _) => print(&done.kept, with_table, out),
+        (Some(why), None) => {
+            let _ = print(&done.kept, with_table, out);
+            Err(Failure::from(why))
+        }
+        (Some(why), Some(_)) => Err(Failure::from(why)),
     }
 }
 
 // Prints the audit, and with `with_table` the table.
-#[tactic(auto, using(crate::proofs::FailedWrites::print_fails))]
 fn print<W: Write>(kept: &Kept<Global>, with_table: bool, out: &mut W) -> Result<(), Failure>
     ensures told { OnOk result (Appends (W.contents out.old) (W.contents out.new)
         (told_by with_table kept.now)) }
     ensures part { HasPart (told_by with_table kept.now) (W.contents out.old) (W.contents out.new) }
-    ensures host { IfErr result (λ failure. exit_of failure ≡ Exit.Host) }
-    ensures run { IsRun kept.now }
+    ensures unprinted { IfErr result (IsUnprinted with_table) }
 {
     // proof: the kept history is a run.
     let _history = kept.history();

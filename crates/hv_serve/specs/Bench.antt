@@ -6,6 +6,7 @@ use Rattle.std.specs.declared.alloc.Global.{Global}
 use Rattle.hv_history.specs.Kept.{IsRun, Kept}
 use Rattle.hv_policy.specs.declared.event.Action.{Action}
 use Rattle.hv_policy.specs.declared.event.Caller.{Caller}
+use Rattle.hv_run.specs.Written.{HasPart}
 use Rattle.hv_script.specs.Callers.{callers_of}
 use Rattle.hv_script.specs.Line.{◌>>=◌}
 use Rattle.hv_script.specs.Script.{SoFar, read_words}
@@ -115,3 +116,12 @@ pub record HasAnswered (form : Form) (number before : ℕ) (outcome told : Outco
   pub words : List ℕ
   pub plain : IsPlain words
   pub wrote : Appends old new (answer_of form number before told now words)
+
+-- as `HasAnswered`, but the writer gets a first part of the answer
+pub record HasAnsweredPart (form : Form) (number before : ℕ) (outcome : Outcome) (now : Option (Kept Global))
+    (old new : Option (List ℕ)) : Type 0 where
+  pub told : Outcome
+  pub told_as : IsToldAs outcome told
+  pub words : List ℕ
+  pub plain : IsPlain words
+  pub wrote : HasPart (answer_of form number before told now words) old new

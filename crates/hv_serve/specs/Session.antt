@@ -17,6 +17,9 @@ use Rattle.hv_policy.specs.BootFault.{IsBootRefusal}
 use Rattle.hv_policy.specs.Flat.{Flat}
 use Rattle.hv_policy.specs.Step.{run}
 use Rattle.hv_policy.specs.declared.config.BootRefused.{BootRefused}
+use Rattle.hv_run.specs.Written.{HasPart}
+use Rattle.hv_run.specs.declared.failure.Exit.{Exit}
+use Rattle.hv_run.specs.declared.failure.Exit.TheVariants.{Script}
 use Rattle.hv_script.specs.Script.{SoFar}
 use Rattle.hv_script.specs.declared.fault.FaultKind.{FaultKind}
 use Rattle.hv_script.specs.declared.line.Line.{Line}
@@ -214,6 +217,11 @@ answered [] = []
 answered (turn ∷ []) = if length turn.line == 0 then [] else turn ∷ []
 answered (turn ∷ next ∷ turns) = turn ∷ answered (next ∷ turns)
 
+-- what the writer gets before all answers
+abbrev pub greeting : Form → List ℕ
+greeting Text = []
+greeting Json = greeting_text
+
 -- what the writer gets for these lines: their answers, and then the number of events. In JSON the program
 -- names itself first
 abbrev pub told_by : Form → List Turn → ℕ → List ℕ
@@ -228,3 +236,20 @@ pub record HasServed (form : Form) (input old new : Option (List ℕ)) : Type 0 
   pub served : AreTurns form 1 None turns now
   pub whole : IfSome input (λ text. text ≡ join_with_byte 10 (lines_in turns))
   pub told : Appends old new (told_by form turns (length (history_of (kept_of now))))
+
+-- what the writer gets for these lines of an input, which more lines follow: their answers. If none follow,
+-- it gets the number of events, too
+abbrev pub told_before : Form → List Turn → List (List ℕ) → ℕ → List ℕ
+told_before form turns [] count = told_by form turns count
+told_before form turns (next ∷ more) count = greeting form ++ answers_in turns
+
+-- The input begins with these lines, with a line feed between each two, and the writer gets a first part of
+-- what they are answered. If the input can't be read to its end, more lines follow.
+pub record HasServedPart (form : Form) (exit : Exit) (input old new : Option (List ℕ)) : Type 0 where
+  pub turns : List Turn
+  pub more : List (List ℕ)
+  pub now : Option Served
+  pub served : AreTurns form 1 None turns now
+  pub begins : IfSome input (λ text. text ≡ join_with_byte 10 (lines_in turns ++ more))
+  pub unread : exit ≡ Script → more ≢ []
+  pub told : HasPart (told_before form turns more (length (history_of (kept_of now)))) old new

@@ -1,15 +1,17 @@
 // Writing the answer to a line.
 ghost use Rattle.std.specs.Prelude.{◌≡◌, ◌+◌, ◌≤◌, ◌<◌, ◌++◌, [], IfOk, OnOk, Some, codes, decimal, drop};
-ghost use Rattle.std.specs.Prelude.{length};
+ghost use Rattle.std.specs.Prelude.{IfErr, OnErr, length};
 ghost use Rattle.std.specs.Io.KnownBytes.{Appends};
 ghost use Rattle.hv_defs.specs.declared.sizes.TheConstants.{REPS_END};
 ghost use Rattle.hv_history.specs.History.{entry_by};
 ghost use Rattle.hv_policy.specs.Parts.{next_in, reply_of};
+ghost use Rattle.hv_run.specs.Failure.{exit_of};
+ghost use Rattle.hv_run.specs.Written.{HasPart};
 ghost use Rattle.hv_text.specs.Audit.{entries_text, entry_text};
-ghost use Rattle.hv_serve.specs.Bench.{HasAnswered, IsToldAs, kept_in};
+ghost use Rattle.hv_serve.specs.Bench.{HasAnswered, HasAnsweredPart, IsToldAs, kept_in};
 ghost use Rattle.hv_serve.specs.Outcome.{fault_text};
-ghost use Rattle.hv_serve.specs.Session.{end_text, history_of, new_text, table_of, told_of};
-ghost use Rattle.hv_serve.specs.Turned.{closing, greeting};
+ghost use Rattle.hv_serve.specs.Session.{end_text, greeting, history_of, new_text, table_of, told_of};
+ghost use Rattle.hv_serve.specs.Turned.{closing};
 ghost use Rattle.hv_serve.specs.declared.form.Form.TheVariants.{Text};
 
 use crate::bench::Bench;
@@ -17,15 +19,15 @@ use crate::form::Form;
 use crate::json::put_json;
 use crate::outcome::Outcome;
 use hv_history::{EntryRef, HostRefused, Kept};
-use hv_run::Failure;
+use hv_run::{Exit, Failure};
 use hv_text::{LINE, PrintFault, Scratch, audit_line, table};
 use itoa::Buffer;
 use std::alloc::Global;
 use std::io::Write;
 
-// Writes the answer to the line with this number, before which this number of events had happened, and
-// flushes it. Returns the outcome of the line, which is out of memory if there is no memory for what it asks
-// for.
+// Builds the answer to the line with this number, before which this number of events had happened, and then
+// writes it and flushes it. Returns the outcome of the line, which is out of memory if there is no memory for
+// what it asks for.
 pub(crate) fn put_answer<W: Write>(
     alloc: Global,
     form: Form,
@@ -35,12 +37,20 @@ pub(crate) fn put_answer<W: Write>(
     number: u64,
     outcome: Outcome,
 ) -> Result<Outcome, Failure>
-    ensures { IfOk result (λ told. HasAnswered form number before outcome told (kept_in bench.now)
+    ensures told { IfOk result (λ told. HasAnswered form number before outcome told (kept_in bench.now)
         (W.contents out.old) (W.contents out.new)) }
+    ensures part { OnErr result (HasAnsweredPart form number before outcome (kept_in bench.now)
+        (W.contents out.old) (W.contents out.new)) }
+    ensures host { IfErr result (λ failure. exit_of failure ≡ Exit.Host) }
 {
-    let told = put_in(alloc, form, out, bench, before, number, outcome)?;
-    out.flush().map_err(|_| Failure::Write)?;
-    Ok(told)
+    let mut text = Vec::new(alloc);
+    match put_in(alloc, form, &mut text, bench, before, number, outcome) {
+        Ok(told) => match put_out(out, &text) {
+            Ok(()) => Ok(told),
+            Err(failure) => Err(failure),
+        },
+        Err(_) => Err(Failure::Memory),
+    }
 }
 
 fn put_in<W: Write>(
@@ -87,28 +97,46 @@ pub(crate) fn events_of(bench: &Option<Bench>) -> usize
 
 // Writes what comes before all answers, and flushes it.
 pub(crate) fn put_greeting<W: Write>(out: &mut W, form: Form) -> Result<(), Failure>
-    ensures { OnOk result (Appends (W.contents out.old) (W.contents out.new) (greeting form)) }
+    ensures told { OnOk result (Appends (W.contents out.old) (W.contents out.new) (greeting form)) }
+    ensures part { HasPart (greeting form) (W.contents out.old) (W.contents out.new) }
+    ensures host { IfErr result (λ failure. exit_of failure ≡ Exit.Host) }
 {
     match form {
         Form::Text => Ok(()),
-        Form::Json => {
-            put_bytes(out, b"{\"program\":\"hvpm\",\"version\":\"0.1.0\"}\n")?;
-            out.flush().map_err(|_| Failure::Write)
-        }
+        Form::Json => put_out(out, b"{\"program\":\"hvpm\",\"version\":\"0.1.0\"}\n"),
     }
 }
 
-// Writes the number of events, after all answers, and flushes it.
+// Builds the number of events, and writes it after all answers and flushes it.
 pub(crate) fn put_end<W: Write>(
+    alloc: Global,
     out: &mut W,
     form: Form,
     bench: &Option<Bench>,
 ) -> Result<(), Failure>
-    ensures { OnOk result (Appends (W.contents out.old) (W.contents out.new)
+    ensures told { OnOk result (Appends (W.contents out.old) (W.contents out.new)
         (closing form (length (history_of (kept_in bench.now))))) }
+    ensures part { HasPart (closing form (length (history_of (kept_in bench.now)))) (W.contents out.old)
+        (W.contents out.new) }
+    ensures host { IfErr result (λ failure. exit_of failure ≡ Exit.Host) }
 {
-    put_count(out, form, events_of(bench) as u64)?;
-    out.flush().map_err(|_| Failure::Write)
+    let mut text = Vec::new(alloc);
+    match put_count(&mut text, form, events_of(bench) as u64) {
+        Ok(()) => put_out(out, &text),
+        Err(_) => Err(Failure::Memory),
+    }
+}
+
+// Writes a text that was built, and flushes it. After a failed write, the writer has a first part of it.
+fn put_out<W: Write>(out: &mut W, text: &[u8]) -> Result<(), Failure>
+    ensures told { OnOk result (Appends (W.contents out.old) (W.contents out.new) text.now) }
+    ensures part { HasPart text.now (W.contents out.old) (W.contents out.new) }
+    ensures host { IfErr result (λ failure. exit_of failure ≡ Exit.Host) }
+{
+    match hv_text::put_bytes(out, text) {
+        Ok(()) => out.flush().map_err(|_| Failure::Write),
+        Err(_) => Err(Failure::Write),
+    }
 }
 
 #[tactic(auto, unfolding(crate::specs::Session::end_text, crate::specs::Json::end_object))]

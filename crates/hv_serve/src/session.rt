@@ -1,9 +1,10 @@
 // A session, from its first line to its last.
-ghost use Rattle.std.specs.Prelude.{◌≡◌, ◌≢◌, ℕ, List, Option, IfOk, OnOk};
+ghost use Rattle.std.specs.Prelude.{◌≡◌, ◌≢◌, ℕ, List, Option, IfErr, IfOk, OnOk};
+ghost use Rattle.hv_run.specs.Failure.{exit_of};
 ghost use Rattle.hv_serve.specs.Bench.{StandsFor};
 ghost use Rattle.hv_serve.specs.Input.{AreKept};
-ghost use Rattle.hv_serve.specs.Session.{HasServed, Served};
-ghost use Rattle.hv_serve.specs.Turned.{HasTurned, is_silent};
+ghost use Rattle.hv_serve.specs.Session.{HasServed, HasServedPart, Served};
+ghost use Rattle.hv_serve.specs.Turned.{HasFailed, HasTurned, is_silent};
 
 use crate::answer::{events_of, put_answer, put_end, put_greeting};
 use crate::bench::{Bench, take_line};
@@ -18,7 +19,7 @@ use std::io::{BufReader, Read, Write};
 /// For each line it does what the line asks for, writes the answer and flushes it, and only then reads the
 /// next line. At the end it writes the number of events, as an audit ends. If it ends early, it writes the
 /// reason to `err`, in one line: the input can't be read, the output can't be written, or there is no memory
-/// at the start.
+/// at the start or for an answer. The output is then a first part of the answers to the first lines.
 ///
 /// The answer to a line that has a fault, or that the host refuses, is `fault: line N: TEXT`, and serving
 /// continues.
@@ -34,6 +35,8 @@ pub fn serve<R: Read + Drop, W: Write, E: Write>(
 ) -> Exit
     ensures served { result ≡ Exit.Done → HasServed form (R.remaining reader) (W.contents out.old)
         (W.contents out.new) }
+    ensures failed { result ≢ Exit.Done → HasServedPart form result (R.remaining reader)
+        (W.contents out.old) (W.contents out.new) }
     ensures no_usage { result ≢ Exit.Usage }
 {
     match BufReader::new(alloc, reader) {
@@ -52,15 +55,17 @@ fn serve_lines<R: Read, W: Write>(
     form: Form,
     out: &mut W,
 ) -> Result<(), Failure>
-    ensures { OnOk result (HasServed form (R.remaining reader.old) (W.contents out.old)
+    ensures served { OnOk result (HasServed form (R.remaining reader.old) (W.contents out.old)
         (W.contents out.new)) }
+    ensures failed { IfErr result (λ failure. HasServedPart form (exit_of failure)
+        (R.remaining reader.old) (W.contents out.old) (W.contents out.new)) }
 {
     put_greeting(out, form)?;
     let mut bench = None;
     let mut line = Vec::new(alloc);
     for number in 1..u64::MAX {
         if serve_line(alloc, &mut bench, &mut line, number, reader, form, out)? {
-            return put_end(out, form, &bench);
+            return put_end(alloc, out, form, &bench);
         }
     }
     Err(Failure::Unreadable)
@@ -76,8 +81,11 @@ fn serve_line<R: Read, W: Write>(
     form: Form,
     out: &mut W,
 ) -> Result<bool, Failure>
-    ensures { (before : Option Served) → StandsFor bench.old before → IfOk result (λ last. HasTurned form
-        number before last bench.new (R.remaining reader.old) (R.remaining reader.new) (W.contents out.old)
+    ensures turned { (before : Option Served) → StandsFor bench.old before → IfOk result (λ last.
+        HasTurned form number before last bench.new (R.remaining reader.old) (R.remaining reader.new)
+        (W.contents out.old) (W.contents out.new)) }
+    ensures failed { (before : Option Served) → StandsFor bench.old before → IfErr result (λ failure.
+        HasFailed form number before failure (R.remaining reader.old) (W.contents out.old)
         (W.contents out.new)) }
 {
     let end = read_line(reader, line)?;

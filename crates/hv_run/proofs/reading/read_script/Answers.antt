@@ -6,6 +6,6 @@ taken : (limit : ℕ) (known : Option (List ℕ)) (items : List ℕ) → IfSome 
 taken limit None items read = tt
 taken limit (Some text) items read = read
 
-pub returns-in-Ok-clause-bytes : goal.returns-in-Ok-clause-bytes
-returns-in-Ok-clause-bytes g c =
-    taken 1048577 _ _ (rw (c.take.ensures.inner, c.take.ensures.limit, c.new-script.ensures.items) at c.in-Ok.ensures.bytes)
+pub returns : goal.returns
+returns g c =
+    taken 1048577 _ _ (rw (c.take.ensures.inner, c.take.ensures.limit, c.new-script.ensures.items) at c.in_ok-read_to_end.ensures.bytes)
