@@ -4,6 +4,7 @@ pub mod List
 pub mod Made
 pub mod Meaning
 pub mod Names
+pub mod Near
 pub mod Printed
 pub mod Table
 pub mod Text

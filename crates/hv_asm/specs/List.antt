@@ -1,6 +1,6 @@
 -- The input list of a call by names.
-use Rattle.std.specs.Prelude.{ℕ, ◌-◌, ◌||◌, ◌&&◌, not, Bool, List, [], ◌∷◌, ◌++◌, length, filter, codes}
-use Rattle.std.specs.Prelude.{nat_le, replicate, false, Result, Ok, Err, if◌then◌else◌}
+use Rattle.std.specs.Prelude.{ℕ, ◌||◌, ◌&&◌, not, Bool, List, [], ◌∷◌, ◌++◌, length, filter, codes}
+use Rattle.std.specs.Prelude.{nat_eq, nat_le, replicate, false, Result, Ok, Err, if◌then◌else◌}
 use Rattle.std.specs.List.{list_any}
 use Rattle.std.specs.Str.{bytes_eq}
 use Rattle.byteorder.specs.Endian.{little_bytes}
@@ -24,13 +24,13 @@ abbrev pub as_script : {T : Type 0} → Result T FaultKind → Result T AsmFault
 as_script (Ok value) = Ok value
 as_script (Err fault) = Err (Script fault)
 
--- a payload of at most 240 bytes, with zeros behind it
-abbrev pub padded : List ℕ → Result (List ℕ) AsmFault
-padded bytes = if nat_le (length bytes) MAX_PAYLOAD then Ok
-    (bytes ++ replicate (MAX_PAYLOAD - length bytes) 0) else Err (Script Hex)
+-- A payload of at most 240 bytes, which a word gives that isn't empty. It ends the list, and each byte past
+-- the end of a list is 0.
+abbrev pub fitting : List ℕ → Result (List ℕ) AsmFault
+fitting bytes = if nat_le (length bytes) MAX_PAYLOAD then Ok bytes else Err (Script Hex)
 
 abbrev pub payload_of : List ℕ → Result (List ℕ) AsmFault
-payload_of word = as_script (bytes_in word) >>= padded
+payload_of word = if nat_eq (length word) 0 then Err (Script Hex) else (as_script (bytes_in word) >>= fitting)
 
 -- the bytes of a part
 abbrev pub part_bytes : List (List ℕ) → Part → Result (List ℕ) AsmFault

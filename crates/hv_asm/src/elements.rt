@@ -36,8 +36,8 @@ pub fn push_elements(
     Ok(count)
 }
 
-// Returns whether a word gives a field of the call or an option.
-fn is_setting(call: CallKind, fast: bool, word: &[u8]) -> bool
+/// Returns whether a word gives a field of the call or an option.
+pub fn is_setting(call: CallKind, fast: bool, word: &[u8]) -> bool
     ensures { result ≡ is_setting call fast word.now }
 {
     let (name, _) = split(word);
@@ -76,8 +76,8 @@ fn is_named(part: Part, name: &[u8]) -> bool
     }
 }
 
-// Adds the element that a word is.
-fn push_element(list: &mut Vec<u8>, call: CallKind, word: &[u8]) -> Result<(), AsmFault>
+/// Adds the element that a word is.
+pub fn push_element(list: &mut Vec<u8>, call: CallKind, word: &[u8]) -> Result<(), AsmFault>
     ensures { IsPushed result list.old.items list.new.items (element_bytes call word.now) }
 {
     match call {

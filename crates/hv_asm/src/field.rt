@@ -35,7 +35,7 @@ pub enum Part {
     Field(Field),
     /// This many bytes that no field covers.
     Unused(u8),
-    /// The 240 bytes of a message's payload.
+    /// A message's payload, of at most 240 bytes, which ends the list.
     Payload,
 }
 
@@ -89,6 +89,17 @@ impl Field {
             | Field::TargetSint
             | Field::TargetVp => 4,
             Field::FlagNumber | Field::BaseFlagNumber | Field::FlagCount => 2,
+        }
+    }
+}
+
+impl Part {
+    /// The TLFS's name of what it holds, if a line gives it.
+    pub(crate) fn name(self) -> Option<&'static str> {
+        match self {
+            Part::Field(field) => Some(field.name()),
+            Part::Unused(_) => None,
+            Part::Payload => Some("Payload"),
         }
     }
 }

@@ -97,8 +97,8 @@ fn rcx_of(call: CallKind, fast: bool, count: u64, words: &[&[u8]]) -> Result<u64
     Ok(u64::from(call.code()) + (u64::from(fast) << 16) + (reps << 32) + (start << 48))
 }
 
-// A rep count or start index.
-fn twelve_bits(number: u64) -> Result<u64, AsmFault>
+/// A rep count or start index.
+pub fn twelve_bits(number: u64) -> Result<u64, AsmFault>
     ensures number { result ≡ twelve_bits number }
     ensures fits { IfOk result (λ number. number < 4096) }
 {

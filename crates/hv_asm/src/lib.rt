@@ -2,7 +2,8 @@
 //!
 //! [`asm_text`] prints the script that a text means: one line for each line. A line by names has the TLFS's
 //! names of calls, registers and fields, and becomes the line of numbers that the script's language has. All
-//! other lines stay as they are. `docs/PROGRAM.md` describes the form.
+//! other lines stay as they are. `docs/PROGRAM.md` describes the form. [`script_by_names`] gives that script
+//! to a command.
 #![tactic(auto)]
 
 ghost use Rattle.std.specs.Prelude.{◌≡◌, ℕ, Bool, List, Ok};
@@ -20,14 +21,16 @@ mod elements;
 mod fault;
 mod field;
 mod frame;
+mod hint;
 mod line;
 mod list;
 mod names;
+mod near;
 mod push;
 mod text;
 mod values;
 
-pub use asm::asm_text;
+pub use asm::{asm_text, script_by_names};
 pub use fault::{AsmError, AsmFault};
 pub use field::{Field, Part, parts};
 pub use text::assemble;

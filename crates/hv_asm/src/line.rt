@@ -42,8 +42,8 @@ fn has_good_bytes(line: &[u8]) -> bool
     line.iter().all(|byte| matches!(*byte, 0x20..=0x7E))
 }
 
-// The words of a line.
-fn words_of<'a>(alloc: Global, line: &'a [u8]) -> Result<Vec<&'a [u8]>, AsmFault>
+/// The words of a line.
+pub fn words_of<'a>(alloc: Global, line: &'a [u8]) -> Result<Vec<&'a [u8]>, AsmFault>
     ensures { IsMade result (λ words. map (λ word. word.now) words.items) (Ok (words_of line.now)) }
 {
     let mut words = Vec::new(alloc);
@@ -69,8 +69,8 @@ fn push_word<'a>(words: &mut Vec<&'a [u8]>, word: &'a [u8]) -> Result<(), AsmFau
         .map_err(|_| AsmFault::Script(FaultKind::Memory))
 }
 
-// Returns whether a line is written by names.
-fn is_by_names(words: &[&[u8]]) -> bool
+/// Returns whether a line is written by names.
+pub fn is_by_names(words: &[&[u8]]) -> bool
     ensures named { result ≡ is_by_names (map (λ word. word.now) words.now) }
     ensures two { result ≡ true → 2 ≤ length words.now }
 {

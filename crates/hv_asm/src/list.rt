@@ -24,7 +24,8 @@ pub fn push_header(list: &mut Vec<u8>, call: CallKind, words: &[&[u8]]) -> Resul
     Ok(())
 }
 
-fn push_part(list: &mut Vec<u8>, part: Part, words: &[&[u8]]) -> Result<(), AsmFault>
+/// Adds the bytes of a part.
+pub fn push_part(list: &mut Vec<u8>, part: Part, words: &[&[u8]]) -> Result<(), AsmFault>
     ensures { IsPushed result list.old.items list.new.items (part_bytes
         (map (λ word. word.now) words.now) part) }
 {
@@ -38,7 +39,7 @@ fn push_part(list: &mut Vec<u8>, part: Part, words: &[&[u8]]) -> Result<(), AsmF
     }
 }
 
-// Adds a message's payload, and zeros up to its 240 bytes.
+// Adds a message's payload, which ends the list.
 fn push_payload(list: &mut Vec<u8>, words: &[&[u8]]) -> Result<(), AsmFault>
     ensures { IsPushed result list.old.items list.new.items (part_bytes
         (map (λ word. word.now) words.now) part.Payload) }
@@ -46,10 +47,12 @@ fn push_payload(list: &mut Vec<u8>, words: &[&[u8]]) -> Result<(), AsmFault>
     let Some(word) = given(words, b"Payload")? else {
         return Err(AsmFault::MissingField);
     };
+    if word.is_empty() {
+        return Err(AsmFault::Script(FaultKind::Hex));
+    }
     let payload = bytes(*list.allocator(), word).map_err(AsmFault::Script)?;
     if payload.len() > MAX_PAYLOAD as usize {
         return Err(AsmFault::Script(FaultKind::Hex));
     }
-    push_bytes(list, payload.as_slice())?;
-    push_zeros(list, (MAX_PAYLOAD as usize - payload.len()) as u8)
+    push_bytes(list, payload.as_slice())
 }

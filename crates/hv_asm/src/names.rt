@@ -65,8 +65,8 @@ pub fn msr_of(word: &[u8]) -> Result<u32, AsmFault>
     }
 }
 
-// An MSR's name without its prefix.
-fn short(word: &[u8]) -> &[u8]
+/// An MSR's name without its prefix.
+pub fn short(word: &[u8]) -> &[u8]
     ensures { result.now ≡ short word.now }
 {
     word.strip_prefix(b"HV_X64_MSR_").unwrap_or(word)
