@@ -1,5 +1,5 @@
 -- What is left behind a line.
-use Rattle.std.proofs.Common.{◌≡◌, ℕ, ◌+◌, ◌<◌, ◌≢◌, ◌^◌, [], ◌∷◌, ◌++◌, refl, sym, ap, ◌∙◌, subst, arith, append_assoc, length, length-append, Bool, true, false, inl, inr, All, map}
+use Rattle.std.proofs.Common.{◌≡◌, ℕ, ◌+◌, ◌<◌, ◌≢◌, ◌^◌, [], ◌∷◌, ◌++◌, refl, sym, ap, ◌∙◌, subst, arith, append_assoc, length, length-append, Bool, true, false, Some, inl, inr, All, map}
 use Rattle.std.proofs.Common.{Global}
 use Rattle.std.proofs.lemmas.Bool.{false≢true}
 use Rattle.std.proofs.lemmas.List.Elements.{All-append, All-cons, All-head, All-nil, All-tail, All-weaker}
@@ -22,8 +22,8 @@ use Rattle.hv_shared.specs.ByCaller.{is_caller}
 use Rattle.hv_check.specs.From.{HasMoved, IsLegalFrom, IsNamedIn, IsNoEnd, IsOver}
 use Rattle.hv_check.specs.Legal.{AreLines, IsLine}
 use Rattle.hv_phases.specs.Read.{AreRead, AreSorted, IsNamed}
-use Rattle.hv_phases.specs.Schedule.{IsBegun, IsIdle, StandsFor, after_reply, later_of, left_by}
-use Rattle.hv_check.specs.Takes.{IsNext, Takes, action_left, line_left}
+use Rattle.hv_phases.specs.Schedule.{IsBegun, IsIdle, StandsFor, after_reply, first_of, later_of, left_by}
+use Rattle.hv_check.specs.Takes.{HasTaken, IsNext, Takes, action_left, line_left}
 use Rattle.hv_phases.specs.declared.schedule.Schedule.{Schedule}
 use Rattle.hv_check.proofs.RemainingActions.{Entries}
 use Rattle.hv_check.proofs.NextEvent.{asked_of_others, here_left, there}
@@ -31,6 +31,11 @@ use Rattle.hv_check.proofs.Phases.{FirstBy, find_by}
 use Rattle.hv_check.proofs.Runs.{one_reply}
 use Rattle.hv_phases.proofs.LinesByPhase.{All-left, All-right, cuts, late_lefts, lefts_all, sorted_lefts, sorted_other, sorted_right}
 use Rattle.hv_check.proofs.LineTexts.{Bytes, named_in, one_rest}
+
+-- the rest behind the first of some actions
+first_some : (acts : Actions) (a : Action Global) → first_of acts ≡ Some a → (rest : Actions) × (acts ≡ a ∷ rest)
+first_some [] a is = absurd (cc)
+first_some (x ∷ acts) a is = (acts, let same : x ≡ a = cc in ap (λ (y : Action Global). y ∷ acts) same)
 
 -- The first line of a processor is one.
 same_first : (c : Caller) (xs ys : Lines) (l m : Line Global) (us vs : Lines) → All (λ o. o.by ≢ c) xs → All (λ o. o.by ≢ c) ys → l.by ≡ c → m.by ≡ c → xs ++ l ∷ us ≡ ys ++ m ∷ vs
@@ -191,41 +196,36 @@ module _ (prefix rules : Bool) (k : Kept Global) (lines : Lines) (text : Bytes) 
       let limit = claims.limit in
       omega (arith, full, count, within, limit, length-append k.history (claims.e ∷ claims.es))
 
--- A line that was taken.
-pub record Took (old_kept new_kept : Kept Global) (old new : Schedule) (text : Bytes) (by : Caller) (a : Action Global) (acts : Actions) (reply : Reply) : Type 0 where
-  pub few : length old_kept.history < 2 ^ 32
-  pub go_on : IsNoEnd text
-  pub reads : (c : Caller) → IsNamedIn text c → c ≡ by
-  pub asked : left_by by old ≡ a ∷ acts
-  pub gained : HasGained (record { by = by; what = a }) reply old_kept new_kept
-  pub run : IsRun new_kept
-  pub goes : GoesOn a reply
-  pub own : left_by by new ≡ after_reply (a ∷ acts) reply
-  pub others : (c : Caller) → c ≢ by → left_by c new ≡ left_by c old
+-- The schedule went on after the reply to an event.
+pub record HasGoneOn (old new : Schedule) (e : Entry Global) : Type 0 where
+  pub asked : first_of (left_by e.event.by old) ≡ Some e.event.what
+  pub goes : GoesOn e.event.what e.reply
+  pub own : left_by e.event.by new ≡ after_reply (left_by e.event.by old) e.reply
+  pub others : (c : Caller) → c ≢ e.event.by → left_by c new ≡ left_by c old
   pub later : later_of new ≡ later_of old
 
-module _ (rules : Bool) (old_kept new_kept : Kept Global) (old new : Schedule) (text : Bytes) (by : Caller) (a : Action Global) (acts : Actions) (reply : Reply)
-    (took : Took old_kept new_kept old new text by a acts reply) (lines : Lines) (stands : StandsFor old lines) where
-  abbrev entry : Entry Global
-  entry = record { event = record { by = by; what = a }; reply = reply }
+-- The event was that of its processor's first line.
+module _ (old new : Schedule) (e : Entry Global) (gone : HasGoneOn old new e) (lines : Lines) (stands : StandsFor old lines) where
+  abbrev by : Caller
+  by = e.event.by
 
-  module _ (some : FirstBy by stands.block) where
+  module _ (acts : Actions) (asked : left_by by old ≡ e.event.what ∷ acts) (some : FirstBy by stands.block) where
     abbrev lefts : Lines
-    lefts = line_left some.line reply
+    lefts = line_left some.line e.reply
 
     abbrev block : Lines
     block = some.before ++ (lefts ++ some.after)
 
-    asked_is : a ∷ acts ≡ some.line.action ∷ asked_by by some.after
+    asked_is : e.event.what ∷ acts ≡ some.line.action ∷ asked_by by some.after
     asked_is =
-        sym took.asked ∙ stands.asked by ∙ ap (asked_by by) some.all ∙ asked_by-append by some.before (some.line ∷ some.after)
+        sym asked ∙ stands.asked by ∙ ap (asked_by by) some.all ∙ asked_by-append by some.before (some.line ∷ some.after)
         ∙ ap (λ (l : Actions). l ++ asked_by by (some.line ∷ some.after)) (asked_of_others by some.before some.first)
         ∙ asked_first by some.line some.after some.by_is
 
-    action_is : a ≡ some.line.action
+    action_is : e.event.what ≡ some.line.action
     action_is = let same = asked_is in cc
 
-    event_is : entry.event ≡ record { by = some.line.by; what = some.line.action }
+    event_is : e.event ≡ record { by = some.line.by; what = some.line.action }
     event_is = λ i. record { by = sym some.by_is i; what = action_is i }
 
     one_phase : All (λ l. l.phase ≡ stands.phase) (some.before ++ some.line ∷ some.after)
@@ -242,7 +242,7 @@ module _ (rules : Bool) (old_kept new_kept : Kept Global) (old new : Schedule) (
     before_others : All (λ l. l.by ≢ some.line.by) some.before
     before_others = All-weaker (λ (l : Line Global). l.by ≡ by → ⊥) (λ (l : Line Global). l.by ≢ some.line.by) (λ l other same. other (same ∙ some.by_is)) some.before some.first
 
-    abbrev block_next : IsNext stands.block entry block
+    abbrev block_next : IsNext stands.block e block
     block_next = record {
       before = some.before;
       line = some.line;
@@ -257,7 +257,7 @@ module _ (rules : Bool) (old_kept new_kept : Kept Global) (old new : Schedule) (
     abbrev left : Lines
     left = block ++ later_of new
 
-    lines_next : IsNext lines entry left
+    lines_next : IsNext lines e left
     lines_next = record {
       before = some.before;
       line = some.line;
@@ -267,7 +267,7 @@ module _ (rules : Bool) (old_kept new_kept : Kept Global) (old new : Schedule) (
       first = before_others;
       event = event_is;
       left_is =
-          ap (λ (l : Lines). block ++ l) took.later ∙ append_assoc some.before (lefts ++ some.after) (later_of old)
+          ap (λ (l : Lines). block ++ l) gone.later ∙ append_assoc some.before (lefts ++ some.after) (later_of old)
           ∙ ap (λ (l : Lines). some.before ++ l) (append_assoc lefts some.after (later_of old));
     }
 
@@ -275,23 +275,23 @@ module _ (rules : Bool) (old_kept new_kept : Kept Global) (old new : Schedule) (
     left_asked c true is =
         let same : c ≡ by = same_caller by c is in
         let here_is : left_by by new ≡ asked_by some.line.by block =
-        took.own ∙ after_left a acts reply took.goes
-        ∙ (λ i. action_left (action_is i) reply ++ rest_is i)
-        ∙ sym (here_left stands.block entry block block_next) in
+        gone.own ∙ ap (λ (l : Actions). after_reply l e.reply) asked ∙ after_left e.event.what acts e.reply gone.goes
+        ∙ (λ i. action_left (action_is i) e.reply ++ rest_is i)
+        ∙ sym (here_left stands.block e block block_next) in
         subst (λ (d : Caller). left_by d new ≡ asked_by d block) (sym same) (subst (λ (d : Caller). left_by by new ≡ asked_by d block) some.by_is here_is)
       where
         rest_is : acts ≡ asked_by some.line.by some.after
         rest_is = let same = asked_is in let all : acts ≡ asked_by by some.after = cc in subst (λ (d : Caller). acts ≡ asked_by d some.after) (sym some.by_is) all
     left_asked c false is =
         let other : c ≢ by = λ same. false≢true (sym is ∙ is_itself by c same) in
-        took.others c other ∙ stands.asked c ∙ there stands.block entry block block_next c (λ same. other (sym same ∙ some.by_is))
+        gone.others c other ∙ stands.asked c ∙ there stands.block e block block_next c (λ same. other (sym same ∙ some.by_is))
 
     left_stands : StandsFor new left
     left_stands =
         let P : Line Global → Type 0 = λ l. All (λ n. l.phase < n.phase) (later_of old) in
         let apart : All P (some.before ++ some.line ∷ some.after) = subst (All P) some.all stands.apart in
         let behind : All P (some.line ∷ some.after) = All-right P some.before (some.line ∷ some.after) apart in
-        let acts = action_left some.line.action reply in
+        let acts = action_left some.line.action e.reply in
         record {
           block = block;
           all = refl;
@@ -304,7 +304,7 @@ module _ (rules : Bool) (old_kept new_kept : Kept Global) (old new : Schedule) (
               (All-tail (λ l. l.phase ≡ stands.phase) some.line some.after (All-right (λ l. l.phase ≡ stands.phase) some.before (some.line ∷ some.after) one_phase))
               );
           apart =
-              subst (AreApart block) (sym took.later)
+              subst (AreApart block) (sym gone.later)
               (
               All-append P some.before (lefts ++ some.after) (All-left P some.before (some.line ∷ some.after) apart)
               (
@@ -313,85 +313,95 @@ module _ (rules : Bool) (old_kept new_kept : Kept Global) (old new : Schedule) (
               )
               );
           asked = λ c. left_asked c (is_caller by c) refl;
-          read = read_left lines entry left lines_next stands.read;
+          read = read_left lines e left lines_next stands.read;
         }
 
-    -- what an audit claims that has one more event
-    module _ (prefix : Bool) (claims : Claims prefix rules old_kept lines text by) where
-      claim_event : claims.e.event ≡ entry.event
-      claim_event = same_event lines claims.e entry claims.next left claims.is_next lines_next claims.by_is
+    taken_by : HasTaken lines e new
+    taken_by = record { left = left; next = lines_next; stands = left_stands }
 
-      claim_reply : claims.e.reply ≡ reply
-      claim_reply =
-          one_reply claims.kept new_kept old_kept.history claims.e entry claims.es claims.run took.run (claims.config ∙ sym took.gained.config) claims.history took.gained.history claim_event
-
-      claim_entry : claims.e ≡ entry
-      claim_entry = λ i. record { event = claim_event i; reply = claim_reply i }
-
-      claim_left : claims.next ≡ left
-      claim_left = same_left lines claims.e entry claims.next left claims.is_next lines_next claims.by_is claim_reply
-
-      claim_line : IsLine rules (length old_kept.history + 1) entry text claims.rest
-      claim_line = subst (λ (e : Entry Global). IsLine rules (length old_kept.history + 1) e text claims.rest) claim_entry claims.line
-
-    module _ (rest : Bytes) (line : IsLine rules (length old_kept.history + 1) entry text rest) where
-      left_forth : (prefix : Bool) → IsLegalFrom prefix rules old_kept lines text → IsLegalFrom prefix rules new_kept left rest
-      left_forth prefix is =
-          let claims = claims_in prefix rules old_kept lines text stands.read took.few took.go_on by took.reads is in
-          let rest_is : claims.rest ≡ rest = one_rest rules (length old_kept.history + 1) entry text claims.rest rest (claim_line prefix claims) line in
-          let count : length old_kept.history + 1 ≡ length new_kept.history = let all = ap length took.gained.history in omega (arith, all, length-append old_kept.history (entry ∷ [])) in
-          record {
-            kept = claims.kept;
-            run = claims.run;
-            config = claims.config ∙ sym took.gained.config;
-            limit = claims.limit ∙ sym took.gained.limit;
-            more = claims.es;
-            history =
-                claims.history ∙ ap (λ (e : Entry Global). old_kept.history ++ e ∷ claims.es) (claim_entry prefix claims) ∙ sym (append_assoc old_kept.history (entry ∷ []) claims.es)
-                ∙ ap (λ (l : Entries). l ++ claims.es) (sym took.gained.history);
-            left = claims.left;
-            takes = subst (λ (l : Lines). Takes l claims.es claims.left) (claim_left prefix claims) claims.takes;
-            over = claims.over;
-            told = subst (λ (n : ℕ). AreLines prefix rules n claims.es rest) count (subst (AreLines prefix rules (length old_kept.history + 1) claims.es) rest_is claims.told);
-          }
-
-      left_back : (prefix : Bool) → IsLegalFrom prefix rules new_kept left rest → IsLegalFrom prefix rules old_kept lines text
-      left_back prefix is =
-          let count : length new_kept.history ≡ length old_kept.history + 1 = let all = ap length took.gained.history in omega (arith, all, length-append old_kept.history (entry ∷ [])) in
-          record {
-            kept = is.kept;
-            run = is.run;
-            config = is.config ∙ took.gained.config;
-            limit = is.limit ∙ took.gained.limit;
-            more = entry ∷ is.more;
-            history = is.history ∙ ap (λ (l : Entries). l ++ is.more) took.gained.history ∙ append_assoc old_kept.history (entry ∷ []) is.more;
-            left = is.left;
-            takes = (left, lines_next, is.takes);
-            over = is.over;
-            told = (rest, line, subst (λ (n : ℕ). AreLines prefix rules n is.more rest) count is.told);
-          }
-
-      moved_by : HasMoved rules old_kept new_kept new lines text rest
-      moved_by = record { left = left; stands = left_stands; forth = left_forth; back = left_back }
-
-    differs_by : ((rest : Bytes) → IsLine rules (length old_kept.history + 1) entry text rest → ⊥) → (prefix : Bool) → IsLegalFrom prefix rules old_kept lines text → ⊥
-    differs_by none prefix is =
-        let claims = claims_in prefix rules old_kept lines text stands.read took.few took.go_on by took.reads is in
-        none claims.rest (claim_line prefix claims)
-
-  first_by_it : FirstBy by stands.block
-  first_by_it = elim (find_by by stands.block) [
-    | inl none ↦ absurd (let same : a ∷ acts ≡ [] = sym took.asked ∙ stands.asked by ∙ none in cc)
+  first_by_it : (acts : Actions) → left_by by old ≡ e.event.what ∷ acts → FirstBy by stands.block
+  first_by_it acts asked = elim (find_by by stands.block) [
+    | inl none ↦ absurd (let same : e.event.what ∷ acts ≡ [] = sym asked ∙ stands.asked by ∙ none in cc)
     | inr some ↦ some
   ]
 
-  -- behind it the rest of the audit is legal just where it was before it
-  pub moved : (rest : Bytes) → IsLine rules (length old_kept.history + 1) entry text rest → HasMoved rules old_kept new_kept new lines text rest
-  moved = moved_by first_by_it
+  -- so it is its next one, and the schedule stands for the lines that are left
+  pub taken : HasTaken lines e new
+  taken =
+      let acts = first_some (left_by by old) e.event.what gone.asked in
+      taken_by acts.0 acts.1 (first_by_it acts.0 acts.1)
+
+pub one_more : (old new : Kept Global) (e : Entry Global) → new.history ≡ old.history ++ e ∷ [] → length new.history ≡ length old.history + 1
+one_more old new e all = let n = ap length all in omega (arith, n, length-append old.history (e ∷ []))
+
+-- An audit whose next event was taken.
+module _ (rules : Bool) (old_kept new_kept : Kept Global) (new : Schedule) (lines : Lines) (text : Bytes) (e : Entry Global) (one : HasTaken lines e new)
+    (gained : HasGained e.event e.reply old_kept new_kept) (run : IsRun new_kept)
+    (claims_of : (prefix : Bool) → IsLegalFrom prefix rules old_kept lines text → Claims prefix rules old_kept lines text e.event.by) where
+  count : length new_kept.history ≡ length old_kept.history + 1
+  count = one_more old_kept new_kept e gained.history
+
+  -- what one claims that has one more event
+  module _ (prefix : Bool) (claims : Claims prefix rules old_kept lines text e.event.by) where
+    claim_event : claims.e.event ≡ e.event
+    claim_event = same_event lines claims.e e claims.next one.left claims.is_next one.next claims.by_is
+
+    claim_reply : claims.e.reply ≡ e.reply
+    claim_reply =
+        one_reply claims.kept new_kept old_kept.history claims.e e claims.es claims.run run (claims.config ∙ sym gained.config) claims.history gained.history claim_event
+
+    claim_entry : claims.e ≡ e
+    claim_entry = λ i. record { event = claim_event i; reply = claim_reply i }
+
+    claim_left : claims.next ≡ one.left
+    claim_left = same_left lines claims.e e claims.next one.left claims.is_next one.next claims.by_is claim_reply
+
+    claim_line : IsLine rules (length old_kept.history + 1) e text claims.rest
+    claim_line = subst (λ (e : Entry Global). IsLine rules (length old_kept.history + 1) e text claims.rest) claim_entry claims.line
+
+  module _ (rest : Bytes) (line : IsLine rules (length old_kept.history + 1) e text rest) where
+    left_forth : (prefix : Bool) → IsLegalFrom prefix rules old_kept lines text → IsLegalFrom prefix rules new_kept one.left rest
+    left_forth prefix is =
+        let claims = claims_of prefix is in
+        let rest_is : claims.rest ≡ rest = one_rest rules (length old_kept.history + 1) e text claims.rest rest (claim_line prefix claims) line in
+        record {
+          kept = claims.kept;
+          run = claims.run;
+          config = claims.config ∙ sym gained.config;
+          limit = claims.limit ∙ sym gained.limit;
+          more = claims.es;
+          history =
+              claims.history ∙ ap (λ (e : Entry Global). old_kept.history ++ e ∷ claims.es) (claim_entry prefix claims) ∙ sym (append_assoc old_kept.history (e ∷ []) claims.es)
+              ∙ ap (λ (l : Entries). l ++ claims.es) (sym gained.history);
+          left = claims.left;
+          takes = subst (λ (l : Lines). Takes l claims.es claims.left) (claim_left prefix claims) claims.takes;
+          over = claims.over;
+          told = subst (λ (n : ℕ). AreLines prefix rules n claims.es rest) (sym count) (subst (AreLines prefix rules (length old_kept.history + 1) claims.es) rest_is claims.told);
+        }
+
+    left_back : (prefix : Bool) → IsLegalFrom prefix rules new_kept one.left rest → IsLegalFrom prefix rules old_kept lines text
+    left_back prefix is = record {
+      kept = is.kept;
+      run = is.run;
+      config = is.config ∙ gained.config;
+      limit = is.limit ∙ gained.limit;
+      more = e ∷ is.more;
+      history = is.history ∙ ap (λ (l : Entries). l ++ is.more) gained.history ∙ append_assoc old_kept.history (e ∷ []) is.more;
+      left = is.left;
+      takes = (one.left, one.next, is.takes);
+      over = is.over;
+      told = (rest, line, subst (λ (n : ℕ). AreLines prefix rules n is.more rest) count is.told);
+    }
+
+  -- behind its line the rest of the audit is legal just where it was before it
+  pub moved : (rest : Bytes) → IsLine rules (length old_kept.history + 1) e text rest → HasMoved rules old_kept new_kept new lines text rest
+  moved rest line = record { left = one.left; stands = one.stands; forth = left_forth rest line; back = left_back rest line }
 
   -- and no audit is legal where it differs
-  pub differs : ((rest : Bytes) → IsLine rules (length old_kept.history + 1) entry text rest → ⊥) → (prefix : Bool) → IsLegalFrom prefix rules old_kept lines text → ⊥
-  differs = differs_by first_by_it
+  pub differs : ((rest : Bytes) → IsLine rules (length old_kept.history + 1) e text rest → ⊥) → (prefix : Bool) → IsLegalFrom prefix rules old_kept lines text → ⊥
+  differs none prefix is =
+      let claims = claims_of prefix is in
+      none claims.rest (claim_line prefix claims)
 
 -- Where a processor has nothing left to do in the phase, no event of it is next.
 module _ (old : Schedule) (lines : Lines) (stands : StandsFor old lines) (begun : IsBegun old) (by : Caller) (none : left_by by old ≡ []) (e : Entry Global) (next : Lines) (is : IsNext lines e next)

@@ -1,4 +1,4 @@
-mod AfterLine
+pub mod AfterLine
 mod AuditEnd
 mod Compared
 mod Digits
@@ -7,7 +7,7 @@ mod LineTexts
 mod NamedProcessor
 mod NextEvent
 mod Phases
-mod Reading
+pub mod Reading
 mod RemainingActions
 mod Runs
 mod ScriptTexts

@@ -1,25 +1,16 @@
 -- A step of a check.
-use Rattle.std.proofs.Common.{◌≡◌, ℕ, ◌+◌, ◌<◌, ◌≢◌, ◌^◌, [], ◌∷◌, ◌++◌, refl, sym, ap, ◌∙◌, subst, arith, length, length-append, Bool, true, false, None, Some, codes, Global}
+use Rattle.std.proofs.Common.{◌≡◌, ℕ, ◌+◌, ◌<◌, ◌^◌, [], ◌∷◌, ◌++◌, refl, sym, ap, subst, arith, length, length-append, Bool, true, false, None, Some, codes, Global}
 use Rattle.hv_history.specs.Kept.{HasGained, IsRun, Kept}
 use Rattle.hv_history.specs.declared.entry.Entry.{Entry}
-use Rattle.hv_policy.specs.Next.{GoesOn}
-use Rattle.hv_policy.specs.declared.event.Action.{Action}
 use Rattle.hv_policy.specs.declared.event.Caller.{Caller}
-use Rattle.hv_policy.specs.declared.event.Event.{Event}
-use Rattle.hv_policy.specs.declared.reply.Reply.{Reply}
 use Rattle.hv_text.specs.Audit.{entry_text}
 use Rattle.hv_check.specs.From.{HasMoved, IsLegalFrom, IsNamedIn, IsNoEnd}
 use Rattle.hv_check.specs.Legal.{IsLine, bare_text}
-use Rattle.hv_phases.specs.Schedule.{IsBegun, StandsFor, after_reply, first_of, later_of, left_by}
+use Rattle.hv_phases.specs.Schedule.{IsBegun, StandsFor, first_of, left_by}
 use Rattle.hv_phases.specs.declared.schedule.Schedule.{Schedule}
-use Rattle.hv_check.proofs.AfterLine.{Took, claims_full, claims_none, differs, idle, moved}
+use Rattle.hv_check.proofs.AfterLine.{Claims, HasGoneOn, claims_full, claims_in, claims_none, differs, idle, moved, one_more, taken}
 use Rattle.hv_check.proofs.LineTexts.{Bytes}
 use Rattle.hv_phases.proofs.AskedOfProcessor.{Actions, Lines}
-
--- the rest behind the first of some actions
-pub first_some : (acts : Actions) (a : Action Global) → first_of acts ≡ Some a → (rest : Actions) × (acts ≡ a ∷ rest)
-first_some [] a is = absurd (cc)
-first_some (x ∷ acts) a is = (acts, let same : x ≡ a = cc in ap (λ (y : Action Global). y ∷ acts) same)
 
 pub first_none : (acts : Actions) → first_of acts ≡ None → acts ≡ []
 first_none [] is = refl
@@ -32,41 +23,22 @@ line_shorter false number e text rest is =
     let n = ap length is.all in omega (arith, n, length-append (bare_text number e) (is.tail ++ (codes "\n" ++ rest)), length-append is.tail (codes "\n" ++ rest))
 
 -- A line whose event the machine took.
-module _ (rules : Bool) (old_kept new_kept : Kept Global) (old new : Schedule) (text : Bytes) (event : Event Global) (reply : Reply)
-    (few : length old_kept.history < 2 ^ 32) (go_on : IsNoEnd text) (reads : (c : Caller) → IsNamedIn text c → c ≡ event.by) (asked : first_of (left_by event.by old) ≡ Some event.what)
-    (gained : HasGained event reply old_kept new_kept) (run : IsRun new_kept) (goes : GoesOn event.what reply)
-    (own : left_by event.by new ≡ after_reply (left_by event.by old) reply) (others : (c : Caller) → c ≢ event.by → left_by c new ≡ left_by c old) (later : later_of new ≡ later_of old) where
-  took : (some : (rest : Actions) × (left_by event.by old ≡ event.what ∷ rest)) → Took old_kept new_kept old new text event.by event.what some.0 reply
-  took some = record {
-    few = few;
-    go_on = go_on;
-    reads = reads;
-    asked = some.1;
-    gained = gained;
-    run = run;
-    goes = goes;
-    own = own ∙ ap (λ (l : Actions). after_reply l reply) some.1;
-    others = others;
-    later = later;
-  }
+module _ (rules : Bool) (old_kept new_kept : Kept Global) (old new : Schedule) (text : Bytes) (e : Entry Global) (few : length old_kept.history < 2 ^ 32) (go_on : IsNoEnd text)
+    (reads : (c : Caller) → IsNamedIn text c → c ≡ e.event.by) (gone : HasGoneOn old new e) (gained : HasGained e.event e.reply old_kept new_kept) (run : IsRun new_kept) where
+  count_is : length new_kept.history ≡ length old_kept.history + 1
+  count_is = one_more old_kept new_kept e gained.history
 
-  abbrev entry : Entry Global
-  entry = record { event = event; reply = reply }
+  claims_of : (lines : Lines) → StandsFor old lines → (prefix : Bool) → IsLegalFrom prefix rules old_kept lines text → Claims prefix rules old_kept lines text e.event.by
+  claims_of lines stands prefix = claims_in prefix rules old_kept lines text stands.read few go_on e.event.by reads
 
-  pub count_is : length new_kept.history ≡ length old_kept.history + 1
-  count_is = let all = ap length gained.history in omega (arith, all, length-append old_kept.history (entry ∷ []))
-
-  pub step_on : (rest : Bytes) → IsLine rules (length new_kept.history) entry text rest → (lines : Lines) → StandsFor old lines → HasMoved rules old_kept new_kept new lines text rest
+  pub step_on : (rest : Bytes) → IsLine rules (length new_kept.history) e text rest → (lines : Lines) → StandsFor old lines → HasMoved rules old_kept new_kept new lines text rest
   step_on rest line lines stands =
-      let some = first_some (left_by event.by old) event.what asked in
-      moved rules old_kept new_kept old new text event.by event.what some.0 reply (took some) lines stands rest (subst (λ (n : ℕ). IsLine rules n entry text rest) count_is line)
+      moved rules old_kept new_kept new lines text e (taken old new e gone lines stands) gained run (claims_of lines stands) rest (subst (λ (n : ℕ). IsLine rules n e text rest) count_is line)
 
-  pub step_not : ((rest : Bytes) → IsLine rules (length new_kept.history) entry text rest → ⊥) → (lines : Lines) → StandsFor old lines → (prefix : Bool) → IsLegalFrom prefix rules old_kept lines text
-      → ⊥
-  step_not none lines stands prefix =
-      let some = first_some (left_by event.by old) event.what asked in
-      differs rules old_kept new_kept old new text event.by event.what some.0 reply (took some) lines stands
-      (λ rest line. none rest (subst (λ (n : ℕ). IsLine rules n entry text rest) (sym count_is) line)) prefix
+  pub step_not : ((rest : Bytes) → IsLine rules (length new_kept.history) e text rest → ⊥) → (lines : Lines) → StandsFor old lines → (prefix : Bool) → IsLegalFrom prefix rules old_kept lines text → ⊥
+  step_not none lines stands =
+      differs rules old_kept new_kept new lines text e (taken old new e gone lines stands) gained run (claims_of lines stands)
+      (λ rest line. none rest (subst (λ (n : ℕ). IsLine rules n e text rest) (sym count_is) line))
 
 pub step_full : (rules : Bool) (k : Kept Global) (old : Schedule) (text : Bytes) (by : Caller) → length k.history < 2 ^ 32 → IsNoEnd text → ((c : Caller) → IsNamedIn text c → c ≡ by)
     → length k.history

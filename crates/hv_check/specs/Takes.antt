@@ -4,6 +4,8 @@ use Rattle.std.specs.declared.alloc.Global.{Global}
 use Rattle.hv_abi.specs.declared.frame.Frame.{Frame}
 use Rattle.hv_history.specs.Run.{restart, start_of}
 use Rattle.hv_history.specs.declared.entry.Entry.{Entry}
+use Rattle.hv_phases.specs.Schedule.{StandsFor}
+use Rattle.hv_phases.specs.declared.schedule.Schedule.{Schedule}
 use Rattle.hv_policy.specs.declared.event.Action.{Action}
 use Rattle.hv_policy.specs.declared.event.Action.TheVariants.{Hypercall, ReadMsr, WriteMsr, ReadSlot}
 use Rattle.hv_policy.specs.declared.event.Action.TheVariants.{ClearSlot, ReadFlags, ClearFlag, TakeInterrupt}
@@ -45,6 +47,12 @@ pub record IsNext (lines : List (Line Global)) (e : Entry Global) (left : List (
   pub first : All (λ other. other.by ≢ line.by) before
   pub event : e.event ≡ record { by = line.by; what = line.action }
   pub left_is : left ≡ before ++ (line_left line e.reply ++ after)
+
+-- the event is the next one of its processor, and the schedule stands for the lines that are left after it
+pub record HasTaken (lines : List (Line Global)) (e : Entry Global) (new : Schedule) : Type 0 where
+  pub left : List (Line Global)
+  pub next : IsNext lines e left
+  pub stands : StandsFor new left
 
 -- each entry is the next event of its processor, one after another, and `left` are the lines left at the end
 abbrev pub Takes : List (Line Global) → List (Entry Global) → List (Line Global) → Type 0

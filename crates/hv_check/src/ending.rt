@@ -45,6 +45,11 @@ fn last_line(text: &[u8], events: u64) -> Ending
     }
 }
 
+/// Returns whether a text is the last line of an audit with this number of events.
+pub fn is_last_line(text: &[u8], events: u64) -> bool {
+    matches!(behind_end(text, events), Some([]))
+}
+
 // Returns the text after the last line of an audit, if the text begins with that line.
 fn behind_end(text: &[u8], events: u64) -> Option<&[u8]>
     ensures some { IfSome result (λ rest. text.now ≡ end_text events ++ rest.now) }

@@ -4,7 +4,7 @@
 //! the script, and returns that it is legal, or the first line that isn't. `IsLegal` of `specs/Legal.antt`
 //! defines legal: some history is a run of the policy from the script's boot, in which each processor's
 //! events are those that its lines ask for, phase by phase, and this history's audit has these bytes.
-//! [`check_text`] takes both texts and returns an exit status.
+//! [`check_text`] takes both texts and returns an exit status. [`check_json`] prints the verdict as JSON.
 //!
 //! Nothing here opens a file. Scripts and audits are this project's own.
 #![tactic(auto)]
@@ -13,6 +13,7 @@ mod audit;
 mod compare;
 mod ending;
 mod entry;
+mod json;
 mod own_line;
 mod reader;
 mod step;
@@ -20,6 +21,6 @@ mod tell;
 mod verdict;
 
 pub use audit::check;
-pub use entry::check_text;
+pub use entry::{check_json, check_text};
 pub use own_line::OwnLine;
 pub use verdict::{Ask, Verdict, Wrong};

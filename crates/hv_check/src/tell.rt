@@ -12,20 +12,33 @@ use std::io::Write;
 const SHOWN: usize = 800;
 
 /// Prints a verdict in one line. `own` is the policy's line if the audit's differs from it.
-pub fn put_verdict<W: Write>(out: &mut W, verdict: Verdict<'_>, own: &[u8]) -> io::Result<()> {
+///
+/// With `rules` the names of rules were compared.
+pub fn put_verdict<W: Write>(
+    out: &mut W,
+    verdict: Verdict<'_>,
+    own: &[u8],
+    rules: bool,
+) -> io::Result<()> {
     match verdict {
         Verdict::Legal { events } => writeln!(out, "legal, {events} events")?,
         Verdict::Illegal { wrong, text } => {
             write!(out, "line {}: ", wrong.line())?;
-            put_wrong(out, wrong, text, own)?;
+            put_wrong(out, wrong, text, own, rules)?;
             out.write_all(b"\n")?;
         }
     }
     out.flush()
 }
 
-// Prints what is wrong with a line, and what the policy answers there.
-fn put_wrong<W: Write>(out: &mut W, wrong: Wrong, text: &[u8], own: &[u8]) -> io::Result<()> {
+/// Prints what is wrong with a line, and what the policy answers there.
+pub fn put_wrong<W: Write>(
+    out: &mut W,
+    wrong: Wrong,
+    text: &[u8],
+    own: &[u8],
+    rules: bool,
+) -> io::Result<()> {
     match wrong {
         Wrong::Unreadable { .. } => {
             write!(out, "wanted the line of an event, found ")?;
@@ -46,7 +59,7 @@ fn put_wrong<W: Write>(out: &mut W, wrong: Wrong, text: &[u8], own: &[u8]) -> io
             out,
             Parts::of(first_line(own)),
             Parts::of(first_line(text)),
-            text,
+            rules,
         ),
         Wrong::Early { by, .. } => {
             write!(out, "wanted an event of ")?;
@@ -104,6 +117,24 @@ impl<'a> Parts<'a> {
     }
 }
 
+// Returns what is compared of an answer: without `rules`, not what stands behind `fault`, or behind `denied`
+// and the result value.
+fn compared(reply: &[u8], rules: bool) -> &[u8] {
+    if rules { reply } else { without_rule(reply) }
+}
+
+fn without_rule(reply: &[u8]) -> &[u8] {
+    let (word, rest) = cut(reply, space_from(reply, 0));
+    if word == b"fault".as_slice() {
+        word
+    } else if word == b"denied".as_slice() {
+        let (value, _) = cut(rest, space_from(rest, 0));
+        &reply[..reply.len().min(word.len() + 1 + value.len())]
+    } else {
+        reply
+    }
+}
+
 // Splits a text at a space. If there is none, everything is before it.
 fn cut(text: &[u8], space: usize) -> (&[u8], &[u8]) {
     if space < text.len() {
@@ -144,12 +175,12 @@ fn reply_in(event: &[u8]) -> usize {
     at
 }
 
-// Prints the first part in which a line differs from the policy's.
+// Prints the first part in which a line differs from the policy's. With `rules` the names of rules count.
 fn put_difference<W: Write>(
     out: &mut W,
     own: Parts<'_>,
     found: Parts<'_>,
-    text: &[u8],
+    rules: bool,
 ) -> io::Result<()> {
     if own.number != found.number {
         write!(out, "wanted number ")?;
@@ -161,7 +192,7 @@ fn put_difference<W: Write>(
         put_shown(out, own.asked)?;
         write!(out, ", found ")?;
         put_shown(out, found.asked)
-    } else if own.reply != found.reply {
+    } else if compared(own.reply, rules) != compared(found.reply, rules) {
         put_shown(out, own.asked)?;
         write!(out, ": wanted ")?;
         put_shown(out, own.reply)?;
