@@ -1,5 +1,5 @@
 -- A script that was run and drawn.
-use Rattle.std.proofs.Common.{◌≡◌, ℕ, List, ◌++◌, length, ap, ◌∙◌, append_assoc, IfErr, IsOk, OnOk, Option, Result, Ok, Err, Global}
+use Rattle.std.proofs.Common.{◌≡◌, ℕ, List, ◌++◌, length, ap, ◌∙◌, IfErr, IsOk, OnOk, Option, Result, Ok, Err, Global}
 use Rattle.hv_history.specs.Kept.{IsRun, Kept}
 use Rattle.hv_partition.specs.Partition.{PartitionState}
 use Rattle.hv_run.specs.Failure.{exit_of}
@@ -11,7 +11,7 @@ use Rattle.std.specs.FinMap.{keys}
 use Rattle.hv_tree.specs.Rows.{Rows}
 use Rattle.hv_explain.specs.First.{HasRun}
 use Rattle.hv_draw.specs.Drawn.{HasDrawn, HasGraph, IsGraph}
-use Rattle.hv_draw.specs.Graph.{HasBlocks, head_text}
+use Rattle.hv_draw.specs.Graph.{HasBlocks, end_text, head_text}
 
 pub drawn_of : (said : Said Global) (at : Option ℕ) (start kept : Kept Global) (old new : Option (List ℕ)) → start.config ≡ said.config → start.limit ≡ said.limit
     → HasRun at said.lines start kept → IsRun kept → HasGraph kept old new → HasDrawn said at old new
@@ -46,14 +46,15 @@ silent_host (Err failure) P host = λ script.
     cc
 
 -- the graph of what is kept, with what stands behind its blocks
-pub graph_of : (kept : Kept Global) (tree : Rows PartitionState) (count : ℕ) (t0 t1 t2 t3 links end : List ℕ) → roomless tree ≡ kept.machine.rows → count ≡ length (keys tree) → t0 ≡ head_text count
-    → HasBlocks tree t0 t1 → t2 ≡ t1 ++ links → t3 ≡ t2 ++ end → IsGraph kept t3
-graph_of kept tree count t0 t1 t2 t3 links end shown many head has e2 e3 = record {
+pub graph_of : (kept : Kept Global) (tree : Rows PartitionState) (count events : ℕ) (t0 t1 t2 t3 links : List ℕ) → roomless tree ≡ kept.machine.rows → count ≡ length (keys tree)
+    → events ≡ length kept.history → t0 ≡ head_text count → HasBlocks tree t0 t1 → t2 ≡ t1 ++ links → t3 ≡ t2 ++ end_text events → IsGraph kept t3
+graph_of kept tree count events t0 t1 t2 t3 links shown many all head has e2 e3 = record {
   tree = tree;
   shown = shown;
   blocks = has.own;
-  behind = links ++ end;
+  behind = links;
   are = has.blocks;
-  all = e3 ∙ ap (λ (l : List ℕ). l ++ end) (e2 ∙ ap (λ (l : List ℕ). l ++ links) has.added) ∙ append_assoc (t0 ++ has.own) links end
-      ∙ ap (λ (l : List ℕ). l ++ has.own ++ (links ++ end)) (head ∙ ap head_text many);
+  all = e3 ∙ ap (λ (l : List ℕ). l ++ end_text events) (e2 ∙ ap (λ (l : List ℕ). l ++ links) has.added)
+      ∙ ap (λ (l : List ℕ). l ++ has.own ++ links ++ end_text events) (head ∙ ap head_text many)
+      ∙ ap (λ (n : ℕ). head_text (length (keys tree)) ++ has.own ++ links ++ end_text n) all;
 }

@@ -1,3 +1,5 @@
 mod Blocks
 mod Charting
 mod Drawing
+mod Heads
+mod Parts

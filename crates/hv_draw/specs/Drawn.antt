@@ -10,21 +10,21 @@ use Rattle.hv_partition.specs.Partition.{PartitionState}
 use Rattle.hv_script.specs.Script.{Said, script_of}
 use Rattle.hv_refine.specs.Room.{roomless}
 use Rattle.hv_tree.specs.Rows.{Rows}
-use Rattle.hv_draw.specs.Graph.{AreBlocks, head_text}
+use Rattle.hv_draw.specs.Graph.{AreBlocks, end_text, head_text}
 
 -- the teller writes nothing
 abbrev pub nothing : Telling
 nothing number e effect text = text ≡ []
 
--- the text is a graph of the machine: its head, the block of each partition, by rising id, and some text
--- after the blocks
+-- the text is a graph of the machine: its head, the block of each partition, by rising id, some text after
+-- the blocks, and its end, which tells the number of events
 pub record IsGraph (kept : Kept Global) (text : List ℕ) : Type 0 where
   pub tree : Rows PartitionState
   pub shown : roomless tree ≡ kept.machine.rows
   pub blocks : List ℕ
   pub behind : List ℕ
   pub are : AreBlocks tree (entries tree) blocks
-  pub all : text ≡ head_text (length (keys tree)) ++ blocks ++ behind
+  pub all : text ≡ head_text (length (keys tree)) ++ blocks ++ behind ++ end_text (length kept.history)
 
 -- the writer gets the graph of the machine
 pub record HasGraph (kept : Kept Global) (old new : Option (List ℕ)) : Type 0 where

@@ -1,5 +1,5 @@
 -- The text of a graph.
-use Rattle.std.specs.Prelude.{ℕ, ◌≡◌, List, [], ◌∷◌, ◌++◌, length, codes, decimal, Option, None, Some}
+use Rattle.std.specs.Prelude.{ℕ, ◌≡◌, ◌==◌, List, [], ◌∷◌, ◌++◌, length, codes, decimal, Option, None, Some}
 use Rattle.std.specs.Prelude.{if◌then◌else◌, nat_lt}
 use Rattle.std.specs.FinMap.{entries}
 use Rattle.std.specs.FinSet as set
@@ -22,6 +22,16 @@ head_text partitions =
     codes "digraph hvpm {\n  graph [newrank=true style=rounded color=gray];\n" ++ direction_text partitions ++
     codes "  node [fontname=\"Helvetica\" fontsize=10 shape=box];\n"
     ++ codes "  edge [fontname=\"Helvetica\" fontsize=9];\n"
+
+-- after a number of events
+abbrev pub events_text : ℕ → List ℕ
+events_text events = if events == 1 then codes " event" else codes " events"
+
+-- the end of a graph, with its title: the number of events before this state
+abbrev pub end_text : ℕ → List ℕ
+end_text events =
+    codes "  label=\"after " ++ decimal events ++ events_text events
+    ++ codes "\" labelloc=t fontname=\"Helvetica\";\n}\n"
 
 -- the edge from a parent; the root has none
 abbrev pub edge_text : Option ℕ → ℕ → List ℕ

@@ -1,3 +1,5 @@
 pub mod Drawn
 pub mod Graph
+pub mod Head
 pub mod Sequence
+pub mod Shapes

@@ -1,6 +1,6 @@
 -- The text of a sequence chart.
-use Rattle.std.specs.Prelude.{ℕ, ◌≡◌, ◌++◌, ◌==◌, ◌||◌, List, [], codes, decimal, Bool, true, false, Option}
-use Rattle.std.specs.Prelude.{None, Some}
+use Rattle.std.specs.Prelude.{ℕ, ◌≡◌, ◌++◌, ◌==◌, ◌||◌, List, [], ◌∷◌, codes, decimal, Bool, true, false}
+use Rattle.std.specs.Prelude.{Option, None, Some}
 use Rattle.std.specs.Io.KnownBytes.{Appends}
 use Rattle.std.specs.Option.{option_map_or}
 use Rattle.std.specs.declared.alloc.Global.{Global}
@@ -22,7 +22,10 @@ use Rattle.hv_policy.specs.declared.reply.Reply.{Reply}
 use Rattle.hv_policy.specs.declared.reply.Reply.TheVariants.{Served, More, Denied, Fault}
 use Rattle.hv_text.specs.Audit.{caller_text}
 use Rattle.hv_defs.specs.Registers.{name_of_msr}
-use Rattle.hv_words.specs.Words.{IsPlain}
+use Rattle.hv_words.specs.Words.{IsQuotable}
+use Rattle.hv_draw.specs.Head.{IsHead}
+use Rattle.hv_draw.specs.Shapes.{shapes_text}
+use Rattle.hv_draw.specs.declared.shapes.Shapes.{Shapes}
 
 -- whether a call of this kind posts a message, signals, or makes or ends a partition, a processor, a port or
 -- a connection
@@ -105,19 +108,21 @@ reach_text (effect.Pages from to) = []
 reach_text (effect.Processor part vp) = []
 reach_text (effect.Partition part) = []
 
--- the row of an event, with words about it and its shapes
-unfoldable pub row_text : ℕ → Caller → Reply → Effect → List ℕ → List ℕ → List ℕ
-row_text number by reply effect words shapes =
+-- the row of an event, with words about it and its shapes, which have a text
+unfoldable pub row_text : ℕ → Caller → Reply → Effect → List ℕ → Shapes → List ℕ → List ℕ
+row_text number by reply effect words shapes label =
     opening_text number by ++ class_text reply ++ reach_text effect ++ codes "\"><title>" ++ words ++ codes
-    "</title>" ++ shapes ++ codes "</g>\n"
+    "</title>" ++ shapes_text number shapes label ++ codes "</g>\n"
 
--- the text is the row of an event, which is one line
+-- the text is the row of an event, which is one line. Its words and the text of its shapes stand for
+-- themselves, so that they don't end the row
 pub record IsRow (number : ℕ) (e : Entry Global) (effect : Effect) (text : List ℕ) : Type 0 where
   pub words : List ℕ
-  pub shapes : List ℕ
-  pub plain_words : IsPlain words
-  pub plain_shapes : IsPlain shapes
-  pub is : text ≡ row_text number e.event.by e.reply effect words shapes
+  pub shapes : Shapes
+  pub label : List ℕ
+  pub quotable_words : IsQuotable words
+  pub quotable_label : IsQuotable label
+  pub is : text ≡ row_text number e.event.by e.reply effect words shapes label
 
 -- what a chart has of an event: its row, or nothing if it has none
 abbrev pub charts : Telling
@@ -125,10 +130,16 @@ charts number e effect text =
     (has_row e.event.what effect ≡ true → IsRow number e effect text) ×
     (has_row e.event.what effect ≡ false → text ≡ [])
 
+-- what a chart says if it has no rows
+abbrev pub none_text : List ℕ → List ℕ
+none_text [] = codes "<text x=\"20\" y=\"60\">nothing was sent, made or ended</text>\n"
+none_text (byte ∷ rows) = []
+
 -- the text is a chart with these rows: a head, the rows and an end
 pub record IsChart (rows text : List ℕ) : Type 0 where
   pub head : List ℕ
-  pub is : text ≡ head ++ rows ++ codes "</svg>\n"
+  pub is_head : IsHead head
+  pub is : text ≡ head ++ none_text rows ++ rows ++ codes "</svg>\n"
 
 -- the writer gets a chart with these rows
 pub record HasChart (rows : List ℕ) (before after : Option (List ℕ)) : Type 0 where

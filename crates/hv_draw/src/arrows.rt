@@ -1,7 +1,7 @@
-// A row with an arrow: a message or a signal that was accepted.
+// The text of a row with an arrow: a message or a signal that was accepted.
 
 use crate::notes::push_raised;
-use crate::shapes::{Place, push_closing, push_dot, push_opening, push_shaft};
+use crate::shapes::{Class, Label, Place};
 use crate::ways::Way;
 use hv_effect::{Effect, Synic};
 use hv_words::Words;
@@ -11,11 +11,8 @@ const GAP: u64 = 8;
 
 const LOOP: u64 = 32;
 
-/// Adds the arrow of a message or a signal, with its port and its SINT, and for a signal its flag.
-pub(crate) fn push_arrow(words: &mut Words, place: Place, way: Way, effect: &Effect) {
-    push_shaft(words, place);
-    push_dot(words, place);
-    open_label(words, place);
+/// Adds the text of a message or a signal: its port and its SINT, and for a signal its flag.
+pub(crate) fn push_arrow(words: &mut Words, way: Way, effect: &Effect) {
     match way.flag {
         Some(flag) => words.decimal("flag ", flag),
         None => words.text("message"),
@@ -30,23 +27,29 @@ pub(crate) fn push_arrow(words: &mut Words, place: Place, way: Way, effect: &Eff
         | Effect::Processor { .. }
         | Effect::Partition { .. } => words.text(", already set"),
     }
-    push_closing(words);
 }
 
-// Adds the beginning of an arrow's text: above it, beside the lane where it begins.
-fn open_label(words: &mut Words, place: Place) {
+/// Returns where an arrow's text is: above it, beside the lane where it begins.
+pub(crate) fn arrow_label(place: Place) -> Label {
     let above = place.y.saturating_sub(5);
     if place.to < place.from {
-        push_opening(words, "left", place.from.saturating_sub(GAP), above);
+        Label {
+            class: Class::Left,
+            x: place.from.saturating_sub(GAP),
+            y: above,
+        }
     } else if place.to > place.from {
-        push_opening(words, "right", place.from.saturating_add(GAP), above);
+        Label {
+            class: Class::Right,
+            x: place.from.saturating_add(GAP),
+            y: above,
+        }
     } else {
-        push_opening(
-            words,
-            "right",
-            place.from.saturating_add(LOOP),
-            place.y.saturating_add(8),
-        );
+        Label {
+            class: Class::Right,
+            x: place.from.saturating_add(LOOP),
+            y: place.y.saturating_add(8),
+        }
     }
 }
 

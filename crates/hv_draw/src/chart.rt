@@ -1,14 +1,15 @@
 // The rows of a sequence chart.
-ghost use Rattle.std.specs.Prelude.{◌++◌, decimal, OnOk};
+ghost use Rattle.std.specs.Prelude.{OnOk};
 ghost use Rattle.std.specs.Io.KnownBytes.{Appends};
-ghost use Rattle.hv_words.specs.Words.{IsPlain};
+ghost use Rattle.hv_words.specs.Words.{IsQuotable};
 ghost use Rattle.hv_draw.specs.Sequence.{class_text, opening_text, reach_text, row_text, waits_text};
 
-use crate::arrows::push_arrow;
+use crate::arrows::{arrow_label, push_arrow};
 use crate::lanes::Lanes;
-use crate::notes::push_note;
+use crate::notes::{note_label, push_note};
+use crate::put::put_number;
 use crate::rowed::has_row;
-use crate::shapes::{Place, push_number};
+use crate::shapes::{Mark, Place, Shapes, put_shapes};
 use crate::ways::way_of;
 use hv_effect::Effect;
 use hv_explain::Teller;
@@ -16,7 +17,6 @@ use hv_history::Kept;
 use hv_policy::{Action, Caller, Reply};
 use hv_refine::Partitions;
 use hv_words::{Words, push_event};
-use itoa::Buffer;
 use std::alloc::{AllocError, Global};
 use std::io;
 use std::io::Write;
@@ -27,7 +27,7 @@ pub(crate) struct Chart {
     lanes: Lanes,
     rows: u64,
     words: Words,
-    shapes: Words,
+    text: Words,
 }
 
 impl Chart {
@@ -37,12 +37,19 @@ impl Chart {
             lanes: Lanes::new(alloc),
             rows: 0,
             words: Words::new(),
-            shapes: Words::new(),
+            text: Words::new(),
         }
     }
 
-    /// The processors that have a lane.
-    pub(crate) fn lanes(&self) -> &[Caller] {
+    /// The chart of the same run, again without rows. Its lanes are those of this one, by partition.
+    pub(crate) fn again(mut self) -> Result<Chart, AllocError> {
+        self.lanes.sort()?;
+        self.rows = 0;
+        Ok(self)
+    }
+
+    /// The processors that have a lane, each by its partition and its index there.
+    pub(crate) fn lanes(&self) -> &[(u64, u32)] {
         self.lanes.as_slice()
     }
 
@@ -51,16 +58,15 @@ impl Chart {
         self.rows
     }
 
-    // Draws the next row, of this event. These are the partitions after it.
+    // Draws the next row, of this event, with its text. These are the partitions after it.
     fn draw(
         &mut self,
         tree: &Partitions<Global>,
-        number: u64,
         by: Caller,
         what: &Action<Global>,
         reply: &Reply,
         effect: &Effect,
-    ) -> Result<(), AllocError> {
+    ) -> Result<Shapes, AllocError> {
         let way = way_of(tree, by, what, reply);
         let from = self.lanes.take(by)?;
         let to = match way {
@@ -69,13 +75,17 @@ impl Chart {
         };
         let place = Place::new(self.rows, from, to);
         self.rows = self.rows.saturating_add(1);
-        self.shapes.clear();
-        push_number(&mut self.shapes, place, number);
+        self.text.clear();
         match way {
-            Some(way) => push_arrow(&mut self.shapes, place, way, effect),
-            None => push_note(&mut self.shapes, place, by, what, reply, effect),
+            Some(way) => {
+                push_arrow(&mut self.text, way, effect);
+                Ok(Shapes::new(place, Mark::Arrow, arrow_label(place)))
+            }
+            None => {
+                let mark = push_note(&mut self.text, by, what, reply, effect);
+                Ok(Shapes::new(place, mark, note_label(place)))
+            }
         }
-        Ok(())
     }
 }
 
@@ -100,12 +110,21 @@ impl Teller for Chart {
         let tree = kept.machine().tree();
         self.words.clear();
         push_event(&mut self.words, tree, by, what, reply);
-        self.draw(tree, number, by, what, reply, effect)?;
-        put_row(out, number, by, reply, effect, &self.words, &self.shapes)
+        let shapes = self.draw(tree, by, what, reply, effect)?;
+        put_row(
+            out,
+            number,
+            by,
+            reply,
+            effect,
+            &self.words,
+            shapes,
+            &self.text,
+        )
     }
 }
 
-// Writes the row of an event, with these words about it and these shapes.
+// Writes the row of an event, with these words about it and these shapes, which have this text.
 fn put_row<W: Write>(
     out: &mut W,
     number: u64,
@@ -113,21 +132,22 @@ fn put_row<W: Write>(
     reply: &Reply,
     effect: &Effect,
     words: &Words,
-    shapes: &Words,
+    shapes: Shapes,
+    text: &Words,
 ) -> io::Result<()>
     ensures row { OnOk result (Appends (W.contents out.old) (W.contents out.new)
-        (row_text number by reply.now effect.now words.now shapes.now)) }
-    ensures words { IsPlain words.now }
-    ensures shapes { IsPlain shapes.now }
+        (row_text number by reply.now effect.now words.now shapes text.now)) }
+    ensures words { IsQuotable words.now }
+    ensures text { IsQuotable text.now }
 {
-    let (words, shapes) = (words.as_slice(), shapes.as_slice());
+    let (words, text) = (words.as_slice(), text.as_slice());
     put_opening(out, number, by)?;
     put_class(out, reply)?;
     put_reach(out, effect)?;
     out.write_all(b"\"><title>")?;
     out.write_all(words)?;
     out.write_all(b"</title>")?;
-    out.write_all(shapes)?;
+    put_shapes(out, number, shapes, text)?;
     out.write_all(b"</g>\n")
 }
 
@@ -180,13 +200,4 @@ fn put_waits<W: Write>(out: &mut W, waiting: Option<u8>) -> io::Result<()>
         Some(_) => out.write_all(b" waits"),
         None => Ok(()),
     }
-}
-
-// Writes a mark and a number.
-fn put_number<W: Write>(out: &mut W, mark: &[u8], number: u64) -> io::Result<()>
-    ensures { OnOk result (Appends (W.contents out.old) (W.contents out.new) (mark.now ++ decimal number)) }
-{
-    let mut buffer = Buffer::new();
-    out.write_all(mark)?;
-    out.write_all(buffer.format(number).as_bytes())
 }

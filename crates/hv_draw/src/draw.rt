@@ -7,7 +7,7 @@ ghost use Rattle.hv_run.specs.Failure.{CanRun, exit_of};
 ghost use Rattle.hv_script.specs.Reading.{said};
 ghost use Rattle.hv_draw.specs.Drawn.{HasDrawn, HasDrawnOf, HasGraph, IsGraph};
 
-use crate::graph::{push_blocks, push_head};
+use crate::graph::{push_blocks, push_end, push_head};
 use crate::links::push_links;
 use crate::made::made_ports;
 use crate::silent::Silent;
@@ -155,6 +155,6 @@ fn graph(alloc: Global, kept: &Kept<Global>) -> Result<Vec<u8>, AllocError>
     push_head(&mut text, ids.len())?;
     push_blocks(&mut text, tree, &ids, &made)?;
     push(&mut text, &links)?;
-    push(&mut text, b"}\n")?;
+    push_end(&mut text, kept.history().len() as u64)?;
     Ok(text)
 }

@@ -4,8 +4,8 @@ ghost use Rattle.std.specs.FinMap as map;
 ghost use Rattle.hv_partition.specs.Partition.{PartitionState};
 ghost use Rattle.hv_tree.specs.Rows.{Row};
 ghost use Rattle.hv_draw.specs.Graph.{HasBlock, HasBlocks, color_text, direction_text, edge_text};
-ghost use Rattle.hv_draw.specs.Graph.{fill_text, head_text, name_text, opening_text, pages_text, rank_text};
-ghost use Rattle.hv_draw.specs.Graph.{use_text};
+ghost use Rattle.hv_draw.specs.Graph.{end_text, events_text, fill_text, head_text, name_text, opening_text};
+ghost use Rattle.hv_draw.specs.Graph.{pages_text, rank_text, use_text};
 ghost use Rattle.hv_text.specs.Table.{life_text};
 
 use crate::inside::push_inside;
@@ -43,6 +43,23 @@ fn push_direction(text: &mut Vec<u8>, partitions: usize) -> Result<(), AllocErro
         return Ok(());
     }
     push(text, b"  rankdir=LR;\n")
+}
+
+/// Adds the end of a graph of the state after this number of events.
+pub(crate) fn push_end(text: &mut Vec<u8>, events: u64) -> Result<(), AllocError>
+    ensures { OnOk result (text.new.items ≡ text.old.items ++ end_text events) }
+{
+    push(text, b"  label=\"after ")?;
+    push_number(text, events)?;
+    push(text, events_word(events))?;
+    push(text, b"\" labelloc=t fontname=\"Helvetica\";\n}\n")
+}
+
+// Returns what is counted, for so many events.
+fn events_word(events: u64) -> &'static [u8]
+    ensures { result.now ≡ events_text events }
+{
+    if events == 1 { b" event" } else { b" events" }
 }
 
 /// Adds the block of each partition. These ids are those of all partitions.

@@ -4,12 +4,12 @@
 //! partition, by rising id, with a node for the partition, for each of its virtual processors and for each of
 //! its ports. An edge leads from each parent to its children, and from a partition to each port to which it
 //! is connected. `specs/Graph.antt` defines what the text promises: each partition has its node, with its
-//! life state, depth, mask and pages.
+//! life state, depth, mask and pages, and the title has the number of events.
 //!
 //! [`sequence_text`] runs the lines and writes a sequence chart in SVG. It has a lane for each virtual
-//! processor that acts or is reached, and a row for each event that matters, from top to bottom: `charts` of
-//! `specs/Sequence.antt` says which. An arrow leads from the sender of a message or a signal to the processor
-//! that it reached. Both forms are this project's own.
+//! processor that acts or is reached, by partition, and a row for each event that matters, from top to
+//! bottom: `charts` of `specs/Sequence.antt` says which. An arrow leads from the sender of a message or a
+//! signal to the processor that it reached. Both forms are this project's own.
 #![tactic(auto)]
 
 mod arrows;
@@ -23,6 +23,7 @@ mod lanes;
 mod links;
 mod made;
 mod notes;
+mod put;
 mod rowed;
 mod sequence;
 mod shapes;

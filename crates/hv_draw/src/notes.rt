@@ -1,9 +1,9 @@
-// A row without an arrow: what a processor does, as a text beside its lane.
+// The text of a row without an arrow: what a processor does. It is beside its lane.
 
 use crate::calls::call_of;
 use crate::inside::is_set;
 use crate::rowed::is_eom;
-use crate::shapes::{Place, push_closing, push_cross, push_dot, push_opening};
+use crate::shapes::{Class, Label, Mark, Place};
 use hv_abi::{CallKind, Frame, InputValue};
 use hv_calls::Call;
 use hv_effect::{Effect, Synic};
@@ -18,41 +18,40 @@ const GAP: u64 = 8;
 // The most flags that are listed.
 const MOST_FLAGS: u64 = 4;
 
-/// Adds a mark and a text: what the event asked for, and what came of it. A refused one has a cross and its
-/// rule.
+/// Adds what an event asked for and what came of it, and returns its mark. A refused one has its rule and a
+/// cross.
 pub(crate) fn push_note(
     words: &mut Words,
-    place: Place,
     by: Caller,
     what: &Action<Global>,
     reply: &Reply,
     effect: &Effect,
-) {
+) -> Mark {
     let (answer, output) = reply.parts();
-    let rule = rule_of(answer);
-    if rule.is_some() {
-        push_cross(words, place);
-    } else {
-        push_dot(words, place);
-    }
-    push_opening(
-        words,
-        "right",
-        place.from.saturating_add(GAP),
-        place.y.saturating_add(4),
-    );
     match what.as_access() {
         Ok(access) => push_access_note(words, access, output),
         Err(frame) => push_call_note(words, by, frame, output),
     }
-    match rule {
+    match rule_of(answer) {
         Some(rule) => {
             words.text(": ");
             words.text(rule.name());
+            Mark::Cross
         }
-        None => push_effect(words, effect),
+        None => {
+            push_effect(words, effect);
+            Mark::Dot
+        }
     }
-    push_closing(words);
+}
+
+/// Returns where the text is.
+pub(crate) fn note_label(place: Place) -> Label {
+    Label {
+        class: Class::Right,
+        x: place.from.saturating_add(GAP),
+        y: place.y.saturating_add(4),
+    }
 }
 
 // Returns the rule that refused an event.

@@ -4,6 +4,7 @@ ghost use Rattle.std.specs.Io.KnownBytes.{Appends};
 ghost use Rattle.hv_check.specs.Legal.{IsLegal, IsLegalOf};
 ghost use Rattle.hv_explain.specs.Followed.{HasFollowed, HasFollowedText, IsFollowed};
 ghost use Rattle.hv_explain.specs.Written.{explains};
+ghost use Rattle.hv_phases.specs.Read.{AreRead};
 ghost use Rattle.hv_run.specs.Failure.{exit_of};
 ghost use Rattle.hv_run.specs.declared.failure.Exit.TheVariants as exit;
 ghost use Rattle.hv_script.specs.Reading.{said};
@@ -61,23 +62,21 @@ pub fn follow_with<T: Teller, W: Write, E: Write>(
     let mut told: Vec<u8> = Vec::new(alloc);
     match check_text(alloc, script, audit, true, true, &mut told, err) {
         Exit::Done => explain_audit(alloc, teller, script, audit, out, err),
-        exit => show_check(exit, &told, out, err),
+        Exit::Script => show_verdict(&told, out, err),
+        exit => exit,
     }
 }
 
-// Prints the text of a check, and returns its exit status.
-fn show_check<W: Write, E: Write>(exit: Exit, told: &[u8], out: &mut W, err: &mut E) -> Exit
-    requires done { exit ≢ Exit.Done }
-    requires usage { exit ≢ Exit.Usage }
+// Prints the verdict on an audit that isn't legal.
+fn show_verdict<W: Write, E: Write>(told: &[u8], out: &mut W, err: &mut E) -> Exit
     ensures told { result ≡ Exit.Script → Appends (W.contents out.old) (W.contents out.new) told.now }
-    ensures script { result ≡ Exit.Script → exit ≡ Exit.Script }
     ensures done { result ≢ Exit.Done }
     ensures usage { result ≢ Exit.Usage }
 {
     if out.write_all(told).is_err() || out.flush().is_err() {
         return tell(Failure::Write, err);
     }
-    exit
+    Exit::Script
 }
 
 // Tells of the events of a legal audit.
@@ -112,6 +111,7 @@ fn follow_script<T: Teller, W: Write>(
     audit: &[u8],
     out: &mut W,
 ) -> Result<(), Failure>
+    requires { AreRead script.lines.items }
     ensures told { OnOk result
         (HasFollowed T.tells (said script) audit.now (W.contents out.old) (W.contents out.new)) }
     ensures refused { IfErr result (λ failure. exit_of failure ≡ exit.Script
@@ -150,15 +150,14 @@ fn follow_event<'a, T: Teller, W: Write>(
     text: &'a [u8],
     out: &mut W,
 ) -> Result<&'a [u8], Failure>
-    ensures followed { IfOk result (λ rest. IsFollowed T.tells kept.old kept.new text.now rest.now
-        (W.contents out.old)
-        (W.contents out.new)) }
+    ensures followed { IfOk result (λ rest. IsFollowed T.tells kept.old kept.new schedule.old schedule.new
+        text.now rest.now (W.contents out.old) (W.contents out.new)) }
     ensures shorter { IfOk result (λ rest. length rest.now < length text.now) }
     ensures host { IfErr result (λ failure. exit_of failure ≡ exit.Host) }
 {
-    if schedule.begin().is_err() {
+    let Ok(()) = schedule.begin() else {
         return Err(Failure::Memory);
-    }
+    };
     let Some(action) = schedule.next(by) else {
         return Err(Failure::Differs);
     };

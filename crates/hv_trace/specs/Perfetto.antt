@@ -16,7 +16,7 @@ use Rattle.hv_trace.specs.declared.perfetto.note.Moment.{Moment}
 use Rattle.hv_trace.specs.declared.perfetto.note.Note.{Note}
 use Rattle.hv_trace.specs.declared.perfetto.note.Note.TheVariants as note
 use Rattle.hv_words.specs.Names.{call_name}
-use Rattle.hv_words.specs.Words.{IsPlain}
+use Rattle.hv_words.specs.Words.{IsQuotable}
 
 -- the name of a call or an access
 abbrev pub action_name : Action Global → List ℕ
@@ -128,9 +128,10 @@ unfoldable pub line_text : ℕ → Caller → Action Global → Reply → List �
 line_text number by what reply words notes =
     codes "," ++ slice_text number by what reply words ++ notes_text notes ++ codes "\n"
 
--- what a chart has of an event: a line with one slice
+-- What a chart has of an event: a line with one slice. The words stand for themselves, so that they don't
+-- end the slice
 abbrev pub charts : Telling
-charts number e effect text = (words : List ℕ) × (notes : List Note) × IsPlain words ×
+charts number e effect text = (words : List ℕ) × (notes : List Note) × IsQuotable words ×
     (text ≡ line_text number e.event.by e.event.what e.reply words notes)
 
 -- the start of the array, with the name of the root's process

@@ -20,8 +20,9 @@ use Rattle.hv_policy.specs.declared.reply.Reply.{Reply}
 use Rattle.hv_policy.specs.declared.reply.Reply.TheVariants.{Served, More, Denied, Fault}
 use Rattle.hv_policy.specs.declared.rule.Rule.{Rule}
 use Rattle.hv_trace.specs.Effect.{effect_text, processor_text}
+use Rattle.hv_trace.specs.Members.{AreMembers}
 use Rattle.hv_words.specs.Names.{call_name}
-use Rattle.hv_words.specs.Words.{IsPlain}
+use Rattle.hv_words.specs.Words.{IsQuotable}
 
 -- which event it is: its number, its processor, and the line of the script that asks for it
 unfoldable pub place_text : ℕ → Caller → ℕ → List ℕ
@@ -107,13 +108,15 @@ abbrev pub object_text : ℕ → ℕ → Entry Global → Effect → List ℕ �
 object_text number line e effect fields reason = place_text number e.event.by line ++ event_text e.event.what
     e.reply effect fields reason
 
--- the text is the object of an event. The texts of its fields and of the reason have no line feed
+-- The text is the object of an event, in a line. It is an object of JSON: besides fixed texts, numbers and
+-- hexadecimal digits it has members between the braces of the fields, and words that stand for themselves
+-- between the quotation marks of the reason
 pub record IsObject (number : ℕ) (e : Entry Global) (effect : Effect) (text : List ℕ) : Type 0 where
   pub line : ℕ
   pub fields : List ℕ
   pub reason : List ℕ
-  pub plain_fields : IsPlain fields
-  pub plain_reason : IsPlain reason
+  pub members : AreMembers fields
+  pub quotable : IsQuotable reason
   pub is : text ≡ object_text number line e effect fields reason
 
 -- what a trace has of an event

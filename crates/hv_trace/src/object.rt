@@ -9,6 +9,7 @@ use crate::asked::put_asked;
 use crate::effect::put_effect;
 use crate::fields::push_fields;
 use crate::lines::Lines;
+use crate::members::Members;
 use crate::put::{put_number, put_processor, put_text};
 use hv_effect::Effect;
 use hv_explain::Teller;
@@ -23,7 +24,7 @@ use std::io::Write;
 #[derive(Drop)]
 pub(crate) struct Tracer {
     lines: Lines,
-    fields: Words,
+    fields: Members,
     reason: Words,
 }
 
@@ -32,7 +33,7 @@ impl Tracer {
     pub(crate) fn new(lines: Lines) -> Tracer {
         Tracer {
             lines,
-            fields: Words::new(),
+            fields: Members::new(),
             reason: Words::new(),
         }
     }

@@ -10,11 +10,10 @@ mod lanes;
 mod note;
 mod slice;
 
+use crate::boots::try_boot;
 use crate::perfetto::chart::Chart;
 use hv_explain::explain_with;
-use hv_history::Kept;
 use hv_run::{Exit, Failure, tell};
-use hv_script::parse;
 use std::alloc::Global;
 use std::io;
 use std::io::Write;
@@ -45,8 +44,7 @@ pub fn perfetto_text<W: Write, E: Write>(
 fn prepare(alloc: Global, script: &[u8]) -> Result<Chart, Failure>
     ensures { IfErr result (λ failure. exit_of failure ≡ Exit.Script → CanRun script.now → ⊥) }
 {
-    let script = parse(alloc, script)?;
-    let _kept = Kept::boot(alloc, script.config, script.limit)?;
+    try_boot(alloc, script)?;
     match Chart::new(alloc) {
         Ok(chart) => Ok(chart),
         Err(_) => Err(Failure::Memory),

@@ -4,21 +4,23 @@
 //! [`hv_options::command`] parses the command line. Each command has its own crate, with an entry point that
 //! takes the bytes of its files and two writers: `hv_run` runs a script and prints its audit, `hv_check`
 //! compares an audit with a script, `hv_explain` describes the events in words, `hv_trace` writes them as
-//! JSON, `hv_serve` answers line by line, `hv_draw` draws a state or a sequence chart, and `hv_asm` reads
-//! scripts by names. This crate only reads the command line and the files, and returns the exit status.
+//! JSON or a page, `hv_serve` answers line by line, `hv_draw` draws a state or a sequence chart, and
+//! `hv_asm` reads scripts by names. This crate only reads the command line and the files, and returns the
+//! exit status.
 #![tactic(auto)]
 
 mod files;
 
-use crate::files::{read_both, read_named};
-use hv_asm::asm_text;
-use hv_check::check_text;
+use crate::files::{Source, read_both, read_source, read_text};
+use hv_asm::{asm_text, assemble};
+use hv_check::{check_json, check_text};
 use hv_draw::{draw_text, sequence_text};
 use hv_explain::{explain_text, follow_text};
 use hv_options::{Command, Options, Usage, command};
 use hv_run::{Exit, Failure, run_text, tell, tell_usage};
 use hv_serve::{Form, serve};
-use hv_trace::{perfetto_text, trace_text};
+use hv_trace::{perfetto_text, report_text, trace_text};
+use std::alloc::{AllocError, Global};
 use std::env;
 use std::io::{BufWriter, ErrorKind, Write};
 use std::process::ExitCode;
@@ -26,13 +28,17 @@ use std::rt::{Env, Files};
 use std::sync::Wait;
 use std::thread::Threads;
 
-// The error if a number of events isn't one.
-const NO_NUMBER: &str = "error: the N of --at isn't a number from 0 to 18446744073709551615\n";
+// The errors of words that don't go together.
+const BOTH: &str = "error: SCRIPT and AUDIT can't both be standard input";
 
-// The errors of flags that don't go together.
-const NO_ORDER: &str = "error: --perfetto takes no AUDIT\n";
+const NO_NUMBER: &str = "error: the N of --at isn't a number from 0 to 18446744073709551615";
 
-const NO_STATE: &str = "error: --sequence takes no --at\n";
+const NO_ORDER: &str = "error: --perfetto takes no AUDIT";
+
+const NO_STATE: &str = "error: --sequence takes no --at";
+
+// How `draw` is used.
+const DRAW: &str = "draw [OPTIONS] <SCRIPT>";
 
 // The size of the output buffer in bytes, 16 times that of a block of an audit.
 const GATHERED: usize = 32_768;
@@ -57,7 +63,7 @@ fn start<R: Env + Files + Input + AllocGlobal + Threads + Wait + Sync, W: Write,
     };
     match command(rt.alloc(), words.as_slice()) {
         Ok(command) => perform(rt, &command, out, err),
-        Err(usage) => tell_usage(usage, out, err),
+        Err(usage) => tell_usage(with_whole_word(rt.alloc(), usage, &words), out, err),
     }
 }
 
@@ -70,6 +76,48 @@ fn read_words<R: Env + AllocGlobal>(rt: &R) -> Result<Vec<String>, Usage> {
     }
 }
 
+// Names the whole of a word where clap names its first letter, as at a file whose name begins with `-`.
+fn with_whole_word(alloc: Global, usage: Usage, words: &[String]) -> Usage {
+    match usage {
+        Usage::Words(text) => match cluster_among(words) {
+            Some(word) => match whole_in(alloc, text.as_str(), word) {
+                Ok(text) => Usage::Words(text),
+                Err(_) => Usage::Memory,
+            },
+            None => Usage::Words(text),
+        },
+        Usage::Help(text) => Usage::Help(text),
+        Usage::Memory => Usage::Memory,
+    }
+}
+
+// Returns the first word that is a cluster.
+fn cluster_among(words: &[String]) -> Option<&str> {
+    for word in words {
+        if is_cluster(word.as_str()) {
+            return Some(word.as_str());
+        }
+    }
+    None
+}
+
+// Returns whether a word is one `-` and more than one letter.
+fn is_cluster(word: &str) -> bool {
+    match word.as_bytes() {
+        [b'-', letter, _, ..] => *letter != b'-',
+        _ => false,
+    }
+}
+
+// Puts a word in the place of its first two letters, where a quote ends them.
+fn whole_in(alloc: Global, text: &str, word: &str) -> Result<String, AllocError> {
+    let mut quoted = String::from_str(alloc, word.get(..2).unwrap_or(word))?;
+    quoted.push('\'')?;
+    let mut whole = String::from_str(alloc, word)?;
+    whole.push('\'')?;
+    text.replace(alloc, quoted.as_str(), whole.as_str())
+}
+
 // Performs the command.
 fn perform<R: Files + Input + AllocGlobal + Threads + Wait + Sync, W: Write, E: Write>(
     rt: &R,
@@ -78,27 +126,41 @@ fn perform<R: Files + Input + AllocGlobal + Threads + Wait + Sync, W: Write, E: 
     err: &mut E,
 ) -> Exit {
     match command {
-        Command::Run(options) => run_named(rt, options, out, err),
+        Command::Run { options, names } => run_named(rt, options, *names, out, err),
         Command::Check {
             script,
             audit,
             prefix,
             rules,
-        } => check_named(rt, script, audit, *prefix, *rules, out, err),
-        Command::Explain { script, audit } => match audit {
-            Some(audit) => follow_named(rt, script, audit, out, err),
-            None => explain_named(rt, script, out, err),
-        },
+            json,
+            names,
+        } => {
+            let source = Source::new(script, *names);
+            check_named(rt, source, audit, (*prefix, *rules), *json, out, err)
+        }
+        Command::Explain {
+            script,
+            audit,
+            names,
+        } => explain_named(rt, Source::new(script, *names), *audit, out, err),
         Command::Trace {
             script,
             audit,
             perfetto,
-        } => match (audit, perfetto) {
-            (Some(_), true) => refuse(NO_ORDER, err),
-            (Some(audit), false) => trace_both(rt, script, audit, out, err),
-            (None, true) => perfetto_named(rt, script, out, err),
-            (None, false) => trace_named(rt, script, out, err),
-        },
+            names,
+        } => {
+            let source = Source::new(script, *names);
+            match (audit, perfetto) {
+                (Some(_), true) => refuse(NO_ORDER, "trace [OPTIONS] <SCRIPT> [AUDIT]", err),
+                (None, true) => perfetto_named(rt, source, out, err),
+                (audit, false) => trace_named(rt, source, *audit, out, err),
+            }
+        }
+        Command::Report {
+            script,
+            audit,
+            names,
+        } => report_named(rt, Source::new(script, *names), *audit, out, err),
         Command::Serve { json } => {
             let form = if *json { Form::Json } else { Form::Text };
             serve(rt.alloc(), rt.reader(), form, out, err)
@@ -107,127 +169,200 @@ fn perform<R: Files + Input + AllocGlobal + Threads + Wait + Sync, W: Write, E: 
             script,
             at,
             sequence,
-        } => match (at, sequence) {
-            (Some(_), true) => refuse(NO_STATE, err),
-            (at, false) => draw_named(rt, script, *at, out, err),
-            (None, true) => sequence_named(rt, script, out, err),
-        },
+            names,
+        } => {
+            let source = Source::new(script, *names);
+            match (at, sequence) {
+                (Some(_), true) => refuse(NO_STATE, DRAW, err),
+                (at, false) => draw_named(rt, source, *at, out, err),
+                (None, true) => sequence_named(rt, source, out, err),
+            }
+        }
         Command::Asm { file } => asm_named(rt, file, out, err),
     }
 }
 
-// Tells that words are wrong.
-fn refuse<E: Write>(why: &str, err: &mut E) -> Exit {
-    let _ = err.write_all(why.as_bytes());
+// Tells that words are wrong, and how the command is used.
+fn refuse<E: Write>(why: &str, usage: &str, err: &mut E) -> Exit {
+    let _ = writeln!(
+        err,
+        "{why}\n\nUsage: hvpm {usage}\n\nFor more information, try '--help'."
+    );
     Exit::Usage
 }
 
-// Runs the script with this name.
+// Tells of `--names` behind a fault, if the text is a script by names. It returns the exit status.
+fn with_hint<E: Write>(
+    alloc: Global,
+    source: Source<'_>,
+    text: &[u8],
+    exit: Exit,
+    err: &mut E,
+) -> Exit {
+    if exit == Exit::Script && !source.names {
+        if let Ok(script) = assemble(alloc, text) {
+            if script.as_slice() != text {
+                let _ = writeln!(err, "hvpm: with --names, this is a script by names");
+            }
+        }
+    }
+    exit
+}
+
+// Runs a script.
 fn run_named<R: Files + Input + AllocGlobal + Threads + Wait + Sync, W: Write, E: Write>(
     rt: &R,
     options: &Options<'_>,
+    names: bool,
     out: &mut W,
     err: &mut E,
 ) -> Exit {
-    match read_named(rt, options.script) {
-        Ok(script) => run_text(rt, rt.alloc(), script.as_slice(), options, out, err),
-        Err(failure) => tell(failure, err),
+    let source = Source::new(options.script, names);
+    match read_source(rt, source, err) {
+        Ok(script) => {
+            let exit = run_text(rt, rt.alloc(), &script, options, out, err);
+            with_hint(rt.alloc(), source, &script, exit, err)
+        }
+        Err(exit) => exit,
     }
 }
 
-// Compares an audit with a script, each given by its name.
+// Compares an audit with a script.
 fn check_named<R: Files + Input + AllocGlobal, W: Write, E: Write>(
     rt: &R,
-    script: &str,
+    source: Source<'_>,
     audit: &str,
-    prefix: bool,
-    rules: bool,
+    (prefix, rules): (bool, bool),
+    json: bool,
     out: &mut W,
     err: &mut E,
 ) -> Exit {
-    match read_both(rt, script, audit, err) {
-        Ok((script, audit)) => check_text(rt.alloc(), &script, &audit, prefix, rules, out, err),
+    if source.name == "-" && audit == "-" {
+        return refuse(BOTH, "check [OPTIONS] <SCRIPT> <AUDIT>", err);
+    }
+    match read_both(rt, source, audit, err) {
+        Ok((script, audit)) => {
+            let exit = if json {
+                check_json(rt.alloc(), &script, &audit, prefix, rules, out, err)
+            } else {
+                check_text(rt.alloc(), &script, &audit, prefix, rules, out, err)
+            };
+            with_hint(rt.alloc(), source, &script, exit, err)
+        }
         Err(exit) => exit,
     }
 }
 
-// Describes in words the events of an audit of a script, each given by its name.
-fn follow_named<R: Files + Input + AllocGlobal, W: Write, E: Write>(
-    rt: &R,
-    script: &str,
-    audit: &str,
-    out: &mut W,
-    err: &mut E,
-) -> Exit {
-    match read_both(rt, script, audit, err) {
-        Ok((script, audit)) => follow_text(rt.alloc(), &script, &audit, out, err),
-        Err(exit) => exit,
-    }
-}
-
-// Describes in words the events of the script with this name.
+// Describes in words the events of a script, or of an audit of it.
 fn explain_named<R: Files + Input + AllocGlobal, W: Write, E: Write>(
     rt: &R,
-    script: &str,
+    source: Source<'_>,
+    audit: Option<&str>,
     out: &mut W,
     err: &mut E,
 ) -> Exit {
-    match read_named(rt, script) {
-        Ok(script) => explain_text(rt.alloc(), script.as_slice(), out, err),
-        Err(failure) => tell(failure, err),
-    }
-}
-
-// Writes as JSON the events of an audit of a script, each given by its name.
-fn trace_both<R: Files + Input + AllocGlobal, W: Write, E: Write>(
-    rt: &R,
-    script: &str,
-    audit: &str,
-    out: &mut W,
-    err: &mut E,
-) -> Exit {
-    match read_both(rt, script, audit, err) {
-        Ok((script, audit)) => trace_text(rt.alloc(), &script, Some(&audit), out, err),
+    match read_some(rt, source, audit, "explain [OPTIONS] <SCRIPT> [AUDIT]", err) {
+        Ok((script, audit)) => {
+            let exit = match audit {
+                Some(audit) => follow_text(rt.alloc(), &script, &audit, out, err),
+                None => explain_text(rt.alloc(), &script, out, err),
+            };
+            with_hint(rt.alloc(), source, &script, exit, err)
+        }
         Err(exit) => exit,
     }
 }
 
-// Writes as JSON the events of the script with this name.
+// Writes as JSON the events of a script, or of an audit of it.
 fn trace_named<R: Files + Input + AllocGlobal, W: Write, E: Write>(
     rt: &R,
-    script: &str,
+    source: Source<'_>,
+    audit: Option<&str>,
     out: &mut W,
     err: &mut E,
 ) -> Exit {
-    match read_named(rt, script) {
-        Ok(script) => trace_text(rt.alloc(), script.as_slice(), None, out, err),
-        Err(failure) => tell(failure, err),
+    match read_some(rt, source, audit, "trace [OPTIONS] <SCRIPT> [AUDIT]", err) {
+        Ok((script, audit)) => {
+            let exit = match audit {
+                Some(audit) => trace_text(rt.alloc(), &script, Some(&audit), out, err),
+                None => trace_text(rt.alloc(), &script, None, out, err),
+            };
+            with_hint(rt.alloc(), source, &script, exit, err)
+        }
+        Err(exit) => exit,
     }
 }
 
-// Writes the events of the script with this name as one trace in the Chrome trace event form.
+// Writes a page of the events of a script, or of an audit of it.
+fn report_named<R: Files + Input + AllocGlobal, W: Write, E: Write>(
+    rt: &R,
+    source: Source<'_>,
+    audit: Option<&str>,
+    out: &mut W,
+    err: &mut E,
+) -> Exit {
+    match read_some(rt, source, audit, "report [OPTIONS] <SCRIPT> [AUDIT]", err) {
+        Ok((script, audit)) => {
+            let exit = match audit {
+                Some(audit) => report_text(rt.alloc(), &script, Some(&audit), out, err),
+                None => report_text(rt.alloc(), &script, None, out, err),
+            };
+            with_hint(rt.alloc(), source, &script, exit, err)
+        }
+        Err(exit) => exit,
+    }
+}
+
+// Returns the bytes of a script, and of an audit if one is named. Its command is used in this way.
+fn read_some<R: Files + Input + AllocGlobal, E: Write>(
+    rt: &R,
+    source: Source<'_>,
+    audit: Option<&str>,
+    usage: &str,
+    err: &mut E,
+) -> Result<(Vec<u8>, Option<Vec<u8>>), Exit> {
+    match audit {
+        Some("-") if source.name == "-" => Err(refuse(BOTH, usage, err)),
+        Some(audit) => {
+            let (script, audit) = read_both(rt, source, audit, err)?;
+            Ok((script, Some(audit)))
+        }
+        None => {
+            let script = read_source(rt, source, err)?;
+            Ok((script, None))
+        }
+    }
+}
+
+// Writes the events of a script as one trace in the Chrome trace event form.
 fn perfetto_named<R: Files + Input + AllocGlobal, W: Write, E: Write>(
     rt: &R,
-    script: &str,
+    source: Source<'_>,
     out: &mut W,
     err: &mut E,
 ) -> Exit {
-    match read_named(rt, script) {
-        Ok(script) => perfetto_text(rt.alloc(), script.as_slice(), out, err),
-        Err(failure) => tell(failure, err),
+    match read_source(rt, source, err) {
+        Ok(script) => {
+            let exit = perfetto_text(rt.alloc(), &script, out, err);
+            with_hint(rt.alloc(), source, &script, exit, err)
+        }
+        Err(exit) => exit,
     }
 }
 
-// Draws the messages and signals of the script with this name.
+// Draws the messages and signals of a script.
 fn sequence_named<R: Files + Input + AllocGlobal, W: Write, E: Write>(
     rt: &R,
-    script: &str,
+    source: Source<'_>,
     out: &mut W,
     err: &mut E,
 ) -> Exit {
-    match read_named(rt, script) {
-        Ok(script) => sequence_text(rt.alloc(), script.as_slice(), out, err),
-        Err(failure) => tell(failure, err),
+    match read_source(rt, source, err) {
+        Ok(script) => {
+            let exit = sequence_text(rt.alloc(), &script, out, err);
+            with_hint(rt.alloc(), source, &script, exit, err)
+        }
+        Err(exit) => exit,
     }
 }
 
@@ -238,29 +373,40 @@ fn asm_named<R: Files + Input + AllocGlobal, W: Write, E: Write>(
     out: &mut W,
     err: &mut E,
 ) -> Exit {
-    match read_named(rt, file) {
+    match read_text(rt, file, err) {
         Ok(text) => asm_text(rt.alloc(), text.as_slice(), out, err),
-        Err(failure) => tell(failure, err),
+        Err(exit) => exit,
     }
 }
 
-// Draws the final state of the script with this name, or the state after this number of events.
+// Draws the final state of a script, or the state after this number of events.
 fn draw_named<R: Files + Input + AllocGlobal, W: Write, E: Write>(
     rt: &R,
-    script: &str,
+    source: Source<'_>,
     at: Option<&str>,
     out: &mut W,
     err: &mut E,
 ) -> Exit {
     let at = match at {
-        Some(word) => match word.parse::<u64>() {
-            Ok(number) => Some(number),
-            Err(_) => return refuse(NO_NUMBER, err),
+        Some(word) => match number_in(word) {
+            Some(number) => Some(number),
+            None => return refuse(NO_NUMBER, DRAW, err),
         },
         None => None,
     };
-    match read_named(rt, script) {
-        Ok(script) => draw_text(rt.alloc(), script.as_slice(), at, out, err),
-        Err(failure) => tell(failure, err),
+    match read_source(rt, source, err) {
+        Ok(script) => {
+            let exit = draw_text(rt.alloc(), &script, at, out, err);
+            with_hint(rt.alloc(), source, &script, exit, err)
+        }
+        Err(exit) => exit,
     }
+}
+
+// Returns the decimal number that a word is.
+fn number_in(word: &str) -> Option<u64> {
+    if word.starts_with('+') {
+        return None;
+    }
+    word.parse::<u64>().ok()
 }

@@ -3,7 +3,7 @@
 use crate::writers::text_of;
 use hv_abi::{Bytes, Frame};
 use hv_history::Kept;
-use hv_phases::RunError;
+use hv_phases::LinesDone;
 use hv_policy::{Action, Caller, Config, Event};
 use hv_privs::Privileges;
 use hv_run::{Failure, print_run};
@@ -117,23 +117,24 @@ fn lines(rt: HostRuntime) -> Result<(), Fail> {
     Ok(())
 }
 
-// A run whose settlement failed, which no script causes, is printed, too.
+// A run whose settlement failed, which no script causes, prints nothing.
 #[test]
 fn unsettled_runs(rt: HostRuntime) -> Result<(), Fail> {
     let alloc = rt.alloc();
-    let mut kept = boot(alloc, 1)?;
-    happens(&mut kept, ROOT, Action::TakeInterrupt)?;
     for (fault, failure) in [
         (SettleFault::Missing, Failure::Missing),
         (SettleFault::Differs, Failure::Differs),
     ] {
+        let mut kept = boot(alloc, 1)?;
+        happens(&mut kept, ROOT, Action::TakeInterrupt)?;
+        let done = LinesDone {
+            kept,
+            stop: None,
+            fault: Some(fault),
+        };
         let mut out: Vec<u8> = Vec::new(alloc);
-        let why = RunError::Settlement(fault);
-        let told = print_run(&kept, Some(why), false, &mut out);
-        assert_eq!(rt;
-            (told, text_of(&out)),
-            (Err(failure), "1 1.0 interrupt ok 00\nevents 1\n")
-        );
+        let told = print_run(&done, false, &mut out);
+        assert_eq!(rt; (told, text_of(&out)), (Err(failure), ""));
     }
     Ok(())
 }

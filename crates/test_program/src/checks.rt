@@ -27,7 +27,7 @@ events 5
 // Whether the audit may end early, whether rules are compared, the audit, the exit status, and the answer.
 type Case = (bool, bool, &'static str, Exit, &'static str);
 
-const WHOLE_AUDITS: [Case; 13] = [
+const WHOLE_AUDITS: [Case; 10] = [
     (false, true, WHOLE, Exit::Done, "legal, 5 events\n"),
     // The order of the script's lines.
     (
@@ -110,6 +110,11 @@ events 5
         Exit::Script,
         "line 1: wanted a line feed, found the end\n",
     ),
+    (true, true, "", Exit::Done, "legal, 0 events\n"),
+];
+
+// Audits that only end early, of which the hint tells.
+const EARLY: [Case; 3] = [
     // The end before 1.0 has finished.
     (
         false,
@@ -137,7 +142,6 @@ events 2
         Exit::Script,
         "line 1: wanted an event of 1.0, found the end\n",
     ),
-    (true, true, "", Exit::Done, "legal, 0 events\n"),
 ];
 
 // The lines after the events.
@@ -274,6 +278,10 @@ fn audits(rt: HostRuntime) {
     }
     for case in FLAGS.iter() {
         assert_answer(&rt, rt.alloc(), SCRIPT, case, "");
+    }
+    for case in EARLY.iter() {
+        let hint = "hvpm: with --prefix, an audit may end early\n";
+        assert_answer(&rt, rt.alloc(), SCRIPT, case, hint);
     }
 }
 

@@ -168,7 +168,7 @@ impl Write for Failing {
 // An answer that cannot be written ends the session.
 #[test]
 fn failed_output(rt: HostRuntime) {
-    for (form, most) in [(Form::Text, 4), (Form::Json, 80)] {
+    for (form, most) in [(Form::Text, 2), (Form::Json, 4)] {
         for writes in 0..most {
             let mut out = Failing { writes };
             let mut err: Vec<u8> = Vec::new(rt.alloc());

@@ -70,6 +70,7 @@ pages: 0 loose, 8 pooled, 7 in use\" style=filled fillcolor=palegreen];\n\
 \x20 g2_8 [label=\"port 9 of partition 1 is gone\" shape=plaintext];\n\
 \x20 p2 -> g2_8 [label=\"connection 8: messages\" style=dashed];\n\
 \x20 p2 -> o1_6 [label=\"connection 10: event flags\" style=dashed];\n\
+\x20 label=\"after 31 events\" labelloc=t fontname=\"Helvetica\";\n\
 }\n\
 ";
 
@@ -90,6 +91,7 @@ pages: 28 loose, 32 pooled, 6 in use\" style=filled fillcolor=palegreen];\n\
 \x20   p2 [label=\"partition 2\\nActive, depth 1\\nmask 0x000000b200000000\\n\
 pages: 0 loose, 4 pooled, 0 in use\" style=filled fillcolor=palegreen];\n\
 \x20 }\n\
+\x20 label=\"after 7 events\" labelloc=t fontname=\"Helvetica\";\n\
 }\n\
 ";
 
@@ -105,6 +107,7 @@ pages: 32 loose, 32 pooled, 4 in use\" style=filled fillcolor=palegreen];\n\
 \x20   v1_0 [label=\"vp 0\"];\n\
 \x20   p1 -> v1_0 [arrowhead=none];\n\
 \x20 }\n\
+\x20 label=\"after 0 events\" labelloc=t fontname=\"Helvetica\";\n\
 }\n\
 ";
 
@@ -132,6 +135,7 @@ pages: 20 loose, 12 pooled, 6 in use\" style=filled fillcolor=palegreen];\n\
 \x20   p2 [label=\"partition 2\\nCreated, depth 1\\nmask 0x0000003000000044\\n\
 pages: 0 loose, 0 pooled, 0 in use\" style=filled fillcolor=lightyellow];\n\
 \x20 }\n\
+\x20 label=\"after 2 events\" labelloc=t fontname=\"Helvetica\";\n\
 }\n\
 ";
 

@@ -1,7 +1,7 @@
 // Scripts as they are read: either all bytes are run or none.
 
 use crate::writers::{SERIAL, text_of};
-use hv_run::{Exit, read_script, run_text, tell};
+use hv_run::{Exit, read_script, run_text, tell, unread};
 use std::alloc::Global;
 use std::io;
 use std::io::{ErrorKind, Read};
@@ -28,7 +28,7 @@ fn assert_read<R: Read + Drop>(
     let mut err: Vec<u8> = Vec::new(alloc);
     let exit = match read_script(alloc, reader) {
         Ok(script) => run_text(rt, alloc, script.as_slice(), &SERIAL, &mut out, &mut err),
-        Err(failure) => tell(failure, &mut err),
+        Err(error) => tell(unread(&error), &mut err),
     };
     assert_eq!(rt; (exit, text_of(&out), text_of(&err)), wanted);
 }

@@ -13,6 +13,7 @@ use std::alloc::{AllocError, Global};
 use std::marker::Brand;
 use std::process::Abort;
 use std::sync::Wait;
+use std::sync::atomic::{AtomicU64, Ordering};
 use std::sync::ledger::{Blank, Ledger};
 use std::test::Fail;
 use std::thread::Threads;
@@ -53,6 +54,49 @@ fn scripts_overlap(rt: HostRuntime) -> Result<(), Fail> {
     let exit = run_gated(&rt, alloc, SCRIPT, &IN_THREADS, &gate, &mut out, &mut err);
     gate.assert_in_time(&rt);
     assert_done(&rt, exit, &out, &err);
+    Ok(())
+}
+
+const IN_ORDER: Options<'static> = Options {
+    script: "",
+    serial: true,
+    table: false,
+};
+
+// Counts the holds of the lock, before and after each.
+#[derive(Drop)]
+struct Holds {
+    entered: AtomicU64,
+    left: AtomicU64,
+}
+
+impl Gate for Holds {
+    fn enter<R: Wait>(&self, _rt: &R, _by: Caller, _turn: u64) {
+        self.entered.fetch_add(1, Ordering::SeqCst);
+    }
+
+    fn leave<R: Wait>(&self, _rt: &R, _by: Caller, _turn: u64) {
+        self.left.fetch_add(1, Ordering::SeqCst);
+    }
+}
+
+// A serial run calls the gate around each hold, too.
+#[test]
+fn a_serial_run_has_its_gate(rt: HostRuntime) -> Result<(), Fail> {
+    let alloc = rt.alloc();
+    let gate = Holds {
+        entered: AtomicU64::new(0),
+        left: AtomicU64::new(0),
+    };
+    let mut out: Vec<u8> = Vec::new(alloc);
+    let mut err: Vec<u8> = Vec::new(alloc);
+    let exit = run_gated(&rt, alloc, SCRIPT, &IN_ORDER, &gate, &mut out, &mut err);
+    assert_eq!(rt;
+        (exit, out.as_slice(), err.as_slice()),
+        (Exit::Done, ZERO_FIRST, b"".as_slice())
+    );
+    assert_eq!(rt; gate.entered.load(Ordering::SeqCst), 2);
+    assert_eq!(rt; gate.left.load(Ordering::SeqCst), 2);
     Ok(())
 }
 

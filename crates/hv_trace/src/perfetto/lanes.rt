@@ -1,6 +1,6 @@
 // The partitions and processors of a chart: their names, their counters, and what is on its way to them.
 
-use crate::perfetto::lane::{Lane, Place};
+use crate::perfetto::lane::Lane;
 use crate::perfetto::note::{Moment, Note};
 use hv_abi::{CallKind, InputValue};
 use hv_calls::Call;
@@ -23,7 +23,8 @@ pub(crate) struct Lanes {
     alloc: Global,
     // The pages of each partition that has a name, loose and pooled, when they were last told.
     pages: IndexMap<u64, (u64, u64)>,
-    processors: IndexMap<(u64, u32), Lane>,
+    // The processors of each partition, by their index there.
+    processors: IndexMap<u64, IndexMap<u32, Lane>>,
     // The number of arrows so far.
     arrows: u64,
 }
@@ -92,8 +93,17 @@ impl Lanes {
     // Returns a processor.
     fn lane(&mut self, by: Caller) -> Result<&mut Lane, AllocError> {
         let alloc = self.alloc;
-        match self.processors.entry((by.part, by.vp)) {
+        match self.lanes_of(by.part)?.entry(by.vp) {
             Ok(entry) => Ok(entry.or_insert(Lane::new(alloc))),
+            Err(_) => Err(AllocError),
+        }
+    }
+
+    // Returns the processors of a partition.
+    fn lanes_of(&mut self, part: u64) -> Result<&mut IndexMap<u32, Lane>, AllocError> {
+        let alloc = self.alloc;
+        match self.processors.entry(part) {
+            Ok(entry) => Ok(entry.or_insert(IndexMap::new(alloc))),
             Err(_) => Err(AllocError),
         }
     }
@@ -107,7 +117,7 @@ impl Lanes {
     ) -> Result<(), AllocError> {
         match what {
             Action::ReadSlot(sint) => {
-                let from = self.lane(now.by)?.take(Place::Slot(*sint));
+                let from = self.lane(now.by)?.take_slot(*sint);
                 self.point(from, now, notes)
             }
             Action::ReadFlags(sint) => self.read_flags(now, *sint, notes),
@@ -190,18 +200,14 @@ impl Lanes {
         part: u64,
         notes: &mut Vec<Note>,
     ) -> Result<(), AllocError> {
-        for at in 0..self.processors.len() {
-            let by = match self.processors.get_index(at) {
-                Some((key, _)) => Caller {
-                    part: key.0,
-                    vp: key.1,
-                },
+        for at in 0..self.lanes_of(part)?.len() {
+            let vp = match self.lanes_of(part)?.get_index(at) {
+                Some((vp, _)) => *vp,
                 None => break,
             };
-            if by.part == part {
-                self.lane(by)?.clear();
-                self.count_waiting(now, by, notes)?;
-            }
+            let by = Caller { part, vp };
+            self.lane(by)?.clear();
+            self.count_waiting(now, by, notes)?;
         }
         Ok(())
     }
@@ -225,7 +231,7 @@ impl Lanes {
             move_flag(lane, tree, now, by, change)?;
         }
         let from = match synic.taken {
-            Some(vector) => lane.take(Place::Vector(vector)),
+            Some(vector) => lane.take_vector(vector),
             None => None,
         };
         self.point(from, now, notes)?;
@@ -325,16 +331,16 @@ fn move_messages(
     synic: &Synic,
 ) -> Result<(), AllocError> {
     if let Some(sint) = synic.waiting {
-        lane.put(now, Place::Queue(sint))?;
+        lane.queue(now, sint)?;
     }
     for sint in 0..SINTS {
         if synic.shown >> sint & 1 == 0 {
             continue;
         }
-        let _ = lane.take(Place::Slot(sint));
+        let _ = lane.take_slot(sint);
         if synic.freed.is_none() {
             if is_post(what) {
-                lane.put(now, Place::Queue(sint))?;
+                lane.queue(now, sint)?;
             }
             show(lane, tree, by, sint)?;
         }
@@ -349,11 +355,10 @@ fn show(
     by: Caller,
     sint: u8,
 ) -> Result<(), AllocError> {
-    let Some(from) = lane.take(Place::Queue(sint)) else {
-        return Ok(());
-    };
-    lane.put(from, Place::Slot(sint))?;
-    raise(lane, tree, by, sint, from)
+    match lane.show(sint) {
+        Some(from) => raise(lane, tree, by, sint, from),
+        None => Ok(()),
+    }
 }
 
 // Sets or clears a flag as an event did. A flag that is set raises its SINT's vector.
@@ -364,12 +369,11 @@ fn move_flag(
     by: Caller,
     change: FlagChange,
 ) -> Result<(), AllocError> {
-    let place = Place::Flag(change.sint, change.flag);
     if !change.is_set {
-        let _ = lane.take(place);
+        lane.clear_flag(change.sint, change.flag);
         return Ok(());
     }
-    lane.put(now, place)?;
+    lane.set_flag(now, change.sint, change.flag)?;
     raise(lane, tree, by, change.sint, now)
 }
 

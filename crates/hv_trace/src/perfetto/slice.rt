@@ -3,7 +3,7 @@ ghost use Rattle.std.specs.Prelude.{◌≡◌, OnOk};
 ghost use Rattle.std.specs.Io.KnownBytes.{Appends};
 ghost use Rattle.hv_trace.specs.Perfetto.{action_name, answer_text, line_text, refused_text, slice_text};
 ghost use Rattle.hv_trace.specs.Perfetto.{start_text, title_text};
-ghost use Rattle.hv_words.specs.Words.{IsPlain};
+ghost use Rattle.hv_words.specs.Words.{IsQuotable};
 
 use crate::perfetto::note::{Note, put_lane, put_notes, put_time};
 use crate::put::put_text;
@@ -27,7 +27,7 @@ pub(crate) fn put_line<W: Write>(
 ) -> io::Result<()>
     ensures line { OnOk result (Appends (W.contents out.old) (W.contents out.new)
         (line_text number by what.now reply.now words.now notes.now)) }
-    ensures plain { IsPlain words.now }
+    ensures quotable { IsQuotable words.now }
 {
     let text = words.as_slice();
     out.write_all(b",")?;

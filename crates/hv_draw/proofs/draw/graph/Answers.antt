@@ -9,4 +9,5 @@ returns c =
     let shown = c.tree-tree.ensures ∙ ap (λ (m : State). m.rows) c.machine.ensures.machine in
     let head = c.in_ok-push_head.ensures ∙ ap (λ (l : List ℕ). l ++ head_text c.len.result) c.new-text.ensures.items in
     let many = c.len.ensures ∙ c.in_ok-ids.ids.ok.0 ∙ ap length c.in_ok-ids.ensures in
-    graph_of c.args.kept.now c.tree-tree.result.now _ _ _ _ _ _ _ shown many head c.in_ok-push_blocks.ensures c.in_ok-push.ensures c.in_ok-push-2.ensures
+    let events = c.len-2.ensures ∙ ap length c.history.ensures.list in
+    graph_of c.args.kept.now c.tree-tree.result.now _ _ _ _ _ _ _ shown many events head c.in_ok-push_blocks.ensures c.in_ok-push.ensures c.in_ok-push_end.ensures
