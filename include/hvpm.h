@@ -26,8 +26,9 @@
  * says otherwise. A rule that refuses an event isn't an error: the status is HVPM_STATUS_OK, and the reply
  * names the rule.
  *
- * Threads. Any thread may use a handle, one call at a time. Protect a shared handle with a lock of your own.
- * Different handles are independent.
+ * Threads. Any thread may use a handle. Any number of looks at it may run at once. Every other call needs the
+ * handle alone: no other call and no look may run meanwhile. Protect a shared handle with a lock for readers
+ * and writers, or with any lock. Different handles are independent.
  *
  * Memory. The library allocates with malloc and realloc, and frees with free. Apart from memchr, memcpy,
  * memmove and memset it calls nothing else. It reads no clock, no file and no guest memory, and keeps no
@@ -53,30 +54,65 @@
 #define HVPM_INLINE static inline
 #endif
 
+/* The compiler warns where a program doesn't look at what such a function returns. */
+#define HVPM_RESULT HVPM_INLINE __attribute__((warn_unused_result))
+
 #ifdef __cplusplus
 extern "C" {
 #endif
 
-/* The version of this header. hvpm_version() returns that of the library. */
+/*
+ * The version of this header, also as one number for #if: 100 is 0.1.0, and 10203 is 1.2.3. hvpm_version() and
+ * hvpm_version_number() return those of the library. docs/EMBEDDING.md says what may change ("Versions").
+ */
 #define HVPM_VERSION_MAJOR 0
 #define HVPM_VERSION_MINOR 1
 #define HVPM_VERSION_PATCH 0
+#define HVPM_VERSION (HVPM_VERSION_MAJOR * 10000 + HVPM_VERSION_MINOR * 100 + HVPM_VERSION_PATCH)
 
 /* ---- Machines ---- */
 
+/* A virtual processor: its partition's id, and its index in that partition. */
+typedef struct hvpm_caller {
+    uint64_t partition;
+    uint32_t vp;
+} hvpm_caller;
+
+/* A text that grows. Read `len` bytes at `at`, and set `len` to 0 when you took them. */
+typedef struct hvpm_text {
+    char *at; /* not terminated by a zero */
+    size_t len;
+    size_t size; /* how many bytes the block at `at` has */
+} hvpm_text;
+
 /*
- * A handle to a machine. Initialize it with HVPM_EMPTY; after that, only the functions below may write it.
- * You may read `events`: the number of events so far, served or refused. You may move a handle in memory
- * between calls. After copying a handle, use only one of the copies.
+ * The record of a machine: see "Recording". Initialize it with zeros. After that write only the `len` of its
+ * texts, and free them with hvpm_record_free().
+ */
+typedef struct hvpm_record {
+    hvpm_text script; /* the boot and the events, as lines of a script */
+    hvpm_text audit;  /* the audit lines of the events */
+    bool is_cut;      /* the record ended, and has the events before that alone */
+    uint32_t vps;     /* number of processors of this phase of the script */
+    hvpm_caller vp[64];
+    hvpm_caller rep_by; /* the caller of a rep call with elements left */
+    uint64_t rep;       /* RCX of its next element, or 0 */
+} hvpm_record;
+
+/*
+ * A handle to a machine. Initialize it with HVPM_EMPTY. After that write `record` alone: only the functions
+ * below may write the rest. You may read `events`: the number of events so far, served or refused. You may move
+ * a handle in memory between calls. After copying a handle, use only one of the copies.
  */
 typedef struct hvpm_machine {
     bool live;
     uint64_t events;
     void *at;
+    hvpm_record *record; /* where the events are recorded, or NULL */
 } hvpm_machine;
 
 /* A handle without a machine. */
-#define HVPM_EMPTY {false, 0, NULL}
+#define HVPM_EMPTY {false, 0, NULL, NULL}
 
 /* What hvpm_boot() gives to the root partition. */
 typedef struct hvpm_config {
@@ -86,12 +122,6 @@ typedef struct hvpm_config {
                        for each processor */
     uint32_t vps;   /* number of virtual processors, 1 to 64 */
 } hvpm_config;
-
-/* A virtual processor: its partition's id, and its index in that partition. */
-typedef struct hvpm_caller {
-    uint64_t partition;
-    uint32_t vp;
-} hvpm_caller;
 
 /*
  * The registers of a hypercall: RCX is the input value. RDX and R8 are the guest physical addresses of the
@@ -189,17 +219,18 @@ enum hvpm_status {
     HVPM_STATUS_OCCUPIED = 2, /* boot: the handle already has a machine */
     HVPM_STATUS_SHORT = 3,    /* a buffer is too small: `line_size` isn't 0 but less than HVPM_LINE,
                                  `outputs_size` is less than HVPM_OUTPUT, or `text_size` is less than the
-                                 length of the text */
+                                 length of the text. hvpm_run_at_most(): or `most` is 0 */
     HVPM_STATUS_USED_UP = 4,  /* the machine served 2^64 - 3 events, or took 2^64 - 1: it takes no more */
     HVPM_STATUS_MEMORY = 5,   /* out of memory; you may retry. A hypercall returns this only if it has input
                                  list bytes, or would be served and may need memory. Accesses never return
-                                 this, and hvpm_table() is the only look that does */
+                                 this. Of the looks, hvpm_table() does, and hvpm_explain() of a hypercall */
     HVPM_STATUS_PAGES = 6,    /* boot: no pages, or more than 65,536 */
     HVPM_STATUS_POOL = 7,     /* boot: more pooled pages than pages */
     HVPM_STATUS_VPS = 8,      /* boot: no processors, more than 64, or more than the pool can pay for */
     HVPM_STATUS_NULL = 9,     /* a pointer is NULL. Only a buffer or an array of length 0 may be NULL */
     HVPM_STATUS_NONE = 10     /* look: there is no such partition, processor, SINT, register, port,
-                                 connection or page. hvpm_access_line(): there is no such access */
+                                 connection or page. hvpm_access_line(): there is no such access.
+                                 Explanations: there is no such access or reply */
 };
 
 /* The `vp` of a port that may deliver to any processor of its partition: HV_ANY_VP. */
@@ -228,6 +259,13 @@ typedef struct hvpm_connection {
     uint32_t port;           /* PortId */
     uint32_t type;           /* PortType: that of the port */
 } hvpm_connection;
+
+/* Pages of a partition whose numbers follow each other, as hvpm_page_after() returns them. */
+typedef struct hvpm_page_run {
+    uint64_t page;  /* the first page */
+    uint32_t count; /* number of pages, at least 1 */
+    uint8_t pooled; /* 1 if they are in the partition's pool, 0 if they are loose */
+} hvpm_page_run;
 
 /* The life state of a partition. */
 enum hvpm_life { HVPM_LIFE_CREATED = 0, HVPM_LIFE_ACTIVE = 1, HVPM_LIFE_FINALIZED = 2 };
@@ -259,7 +297,7 @@ typedef struct hvpm_partition {
  * processors and privileges of `config`. Returns HVPM_STATUS_PAGES, HVPM_STATUS_POOL or HVPM_STATUS_VPS if
  * `config` isn't valid.
  */
-HVPM_INLINE uint32_t hvpm_boot(hvpm_machine *machine, const hvpm_config *config);
+HVPM_RESULT uint32_t hvpm_boot(hvpm_machine *machine, const hvpm_config *config);
 
 /* Destroys the machine, frees its memory, and leaves the handle empty. An empty handle stays empty. */
 HVPM_INLINE void hvpm_destroy(hvpm_machine *machine);
@@ -277,7 +315,7 @@ HVPM_INLINE void hvpm_destroy(hvpm_machine *machine);
  * `line` receives the event's line of the audit, not terminated by a zero; `line_size` is at least HVPM_LINE.
  * Pass NULL and 0 for none.
  */
-HVPM_INLINE uint32_t hvpm_hypercall(hvpm_machine *machine, hvpm_caller by, const hvpm_registers *registers,
+HVPM_RESULT uint32_t hvpm_hypercall(hvpm_machine *machine, hvpm_caller by, const hvpm_registers *registers,
                                     const void *input, size_t input_len, hvpm_reply *reply, char *line,
                                     size_t line_size);
 
@@ -300,9 +338,17 @@ HVPM_INLINE uint32_t hvpm_hypercall(hvpm_machine *machine, hvpm_caller by, const
  * means that `outputs` has fewer than HVPM_OUTPUT bytes. There are no audit lines: to get them, call
  * hvpm_hypercall() for each element.
  */
-HVPM_INLINE uint32_t hvpm_run(hvpm_machine *machine, hvpm_caller by, const hvpm_registers *registers,
+HVPM_RESULT uint32_t hvpm_run(hvpm_machine *machine, hvpm_caller by, const hvpm_registers *registers,
                               const void *input, size_t input_len, hvpm_reply *reply, void *outputs,
                               size_t outputs_size, hvpm_run_done *done);
+
+/*
+ * Like hvpm_run(), but also stops after `most` elements, so that a lock around it is held for a bounded time.
+ * Returns HVPM_STATUS_SHORT if `most` is 0.
+ */
+HVPM_RESULT uint32_t hvpm_run_at_most(hvpm_machine *machine, hvpm_caller by, const hvpm_registers *registers,
+                                      const void *input, size_t input_len, uint32_t most, hvpm_reply *reply,
+                                      void *outputs, size_t outputs_size, hvpm_run_done *done);
 
 /* Returns RCX for the next element, after a reply of kind HVPM_REPLY_MORE. */
 HVPM_INLINE uint64_t hvpm_next(uint64_t rcx, const hvpm_reply *reply);
@@ -313,35 +359,35 @@ HVPM_INLINE uint64_t hvpm_next(uint64_t rcx, const hvpm_reply *reply);
  */
 
 /* Reads a model-specific register. The output is its value: 8 bytes, little-endian. */
-HVPM_INLINE uint32_t hvpm_read_msr(hvpm_machine *machine, hvpm_caller by, uint32_t msr, hvpm_reply *reply,
+HVPM_RESULT uint32_t hvpm_read_msr(hvpm_machine *machine, hvpm_caller by, uint32_t msr, hvpm_reply *reply,
                                    char *line, size_t line_size);
 
 /* Like hvpm_read_msr(), and stores the value in `*value` if the event is served. */
-HVPM_INLINE uint32_t hvpm_read_msr_value(hvpm_machine *machine, hvpm_caller by, uint32_t msr, uint64_t *value,
+HVPM_RESULT uint32_t hvpm_read_msr_value(hvpm_machine *machine, hvpm_caller by, uint32_t msr, uint64_t *value,
                                          hvpm_reply *reply, char *line, size_t line_size);
 
 /* Writes a model-specific register. No output. A write of EOM may show messages and raise vectors. */
-HVPM_INLINE uint32_t hvpm_write_msr(hvpm_machine *machine, hvpm_caller by, uint32_t msr, uint64_t value,
+HVPM_RESULT uint32_t hvpm_write_msr(hvpm_machine *machine, hvpm_caller by, uint32_t msr, uint64_t value,
                                     hvpm_reply *reply, char *line, size_t line_size);
 
 /* Reads the message slot of a SINT. The output is 256 bytes, all zero if the slot is empty. */
-HVPM_INLINE uint32_t hvpm_read_slot(hvpm_machine *machine, hvpm_caller by, uint8_t sint, hvpm_reply *reply,
+HVPM_RESULT uint32_t hvpm_read_slot(hvpm_machine *machine, hvpm_caller by, uint8_t sint, hvpm_reply *reply,
                                     char *line, size_t line_size);
 
 /* Empties the message slot of a SINT. No output. The next message appears on EOM or on a post. */
-HVPM_INLINE uint32_t hvpm_clear_slot(hvpm_machine *machine, hvpm_caller by, uint8_t sint, hvpm_reply *reply,
+HVPM_RESULT uint32_t hvpm_clear_slot(hvpm_machine *machine, hvpm_caller by, uint8_t sint, hvpm_reply *reply,
                                      char *line, size_t line_size);
 
 /* Reads the event flags of a SINT. The output is 256 bytes; flag f is bit f % 8 of byte f / 8. */
-HVPM_INLINE uint32_t hvpm_read_flags(hvpm_machine *machine, hvpm_caller by, uint8_t sint, hvpm_reply *reply,
+HVPM_RESULT uint32_t hvpm_read_flags(hvpm_machine *machine, hvpm_caller by, uint8_t sint, hvpm_reply *reply,
                                      char *line, size_t line_size);
 
 /* Clears one event flag of a SINT. No output. */
-HVPM_INLINE uint32_t hvpm_clear_flag(hvpm_machine *machine, hvpm_caller by, uint8_t sint, uint16_t flag,
+HVPM_RESULT uint32_t hvpm_clear_flag(hvpm_machine *machine, hvpm_caller by, uint8_t sint, uint16_t flag,
                                      hvpm_reply *reply, char *line, size_t line_size);
 
 /* Takes the highest pending vector. The output is one byte: the vector, or 0 if none is pending. */
-HVPM_INLINE uint32_t hvpm_take_interrupt(hvpm_machine *machine, hvpm_caller by, hvpm_reply *reply, char *line,
+HVPM_RESULT uint32_t hvpm_take_interrupt(hvpm_machine *machine, hvpm_caller by, hvpm_reply *reply, char *line,
                                          size_t line_size);
 
 /* ---- Typed hypercalls ---- */
@@ -375,83 +421,83 @@ typedef struct hvpm_vp_register {
 } hvpm_vp_register;
 
 /* HvCreatePartition. Stores the new partition's id in `*partition`. `flags` has no effect. */
-HVPM_INLINE uint32_t hvpm_create_partition(hvpm_machine *machine, hvpm_caller by, uint64_t flags,
+HVPM_RESULT uint32_t hvpm_create_partition(hvpm_machine *machine, hvpm_caller by, uint64_t flags,
                                            uint64_t *partition, hvpm_reply *reply, char *line,
                                            size_t line_size);
 
 /* HvInitializePartition: makes a Created child Active. */
-HVPM_INLINE uint32_t hvpm_initialize_partition(hvpm_machine *machine, hvpm_caller by, uint64_t partition,
+HVPM_RESULT uint32_t hvpm_initialize_partition(hvpm_machine *machine, hvpm_caller by, uint64_t partition,
                                                hvpm_reply *reply, char *line, size_t line_size);
 
 /* HvFinalizePartition: removes a child's processors, ports and connections, for good. */
-HVPM_INLINE uint32_t hvpm_finalize_partition(hvpm_machine *machine, hvpm_caller by, uint64_t partition,
+HVPM_RESULT uint32_t hvpm_finalize_partition(hvpm_machine *machine, hvpm_caller by, uint64_t partition,
                                              hvpm_reply *reply, char *line, size_t line_size);
 
 /* HvDeletePartition: removes a Created or Finalized child. Its pages become loose pages of the caller. */
-HVPM_INLINE uint32_t hvpm_delete_partition(hvpm_machine *machine, hvpm_caller by, uint64_t partition,
+HVPM_RESULT uint32_t hvpm_delete_partition(hvpm_machine *machine, hvpm_caller by, uint64_t partition,
                                            hvpm_reply *reply, char *line, size_t line_size);
 
 /* HvGetPartitionProperty. Stores the value in `*value`. `property` is an enum hvpm_property. */
-HVPM_INLINE uint32_t hvpm_get_partition_property(hvpm_machine *machine, hvpm_caller by, uint64_t partition,
+HVPM_RESULT uint32_t hvpm_get_partition_property(hvpm_machine *machine, hvpm_caller by, uint64_t partition,
                                                  uint32_t property, uint64_t *value, hvpm_reply *reply,
                                                  char *line, size_t line_size);
 
 /* HvSetPartitionProperty: sets a property of a child. `property` is an enum hvpm_property. */
-HVPM_INLINE uint32_t hvpm_set_partition_property(hvpm_machine *machine, hvpm_caller by, uint64_t partition,
+HVPM_RESULT uint32_t hvpm_set_partition_property(hvpm_machine *machine, hvpm_caller by, uint64_t partition,
                                                  uint32_t property, uint64_t value, hvpm_reply *reply,
                                                  char *line, size_t line_size);
 
 /* HvGetPartitionId. Stores the caller's own id in `*partition`. */
-HVPM_INLINE uint32_t hvpm_get_partition_id(hvpm_machine *machine, hvpm_caller by, uint64_t *partition,
+HVPM_RESULT uint32_t hvpm_get_partition_id(hvpm_machine *machine, hvpm_caller by, uint64_t *partition,
                                            hvpm_reply *reply, char *line, size_t line_size);
 
 /*
  * HvGetNextChildPartition. Stores the child with the lowest id above `previous` in `*child`, or 0 if there is
  * none. Pass 0 for the first.
  */
-HVPM_INLINE uint32_t hvpm_get_next_child_partition(hvpm_machine *machine, hvpm_caller by, uint64_t parent,
+HVPM_RESULT uint32_t hvpm_get_next_child_partition(hvpm_machine *machine, hvpm_caller by, uint64_t parent,
                                                    uint64_t previous, uint64_t *child, hvpm_reply *reply,
                                                    char *line, size_t line_size);
 
 /* HvDepositMemory, a rep call: moves the caller's page pages[start] to the partition's pool. */
-HVPM_INLINE uint32_t hvpm_deposit_memory(hvpm_machine *machine, hvpm_caller by, uint64_t partition,
+HVPM_RESULT uint32_t hvpm_deposit_memory(hvpm_machine *machine, hvpm_caller by, uint64_t partition,
                                          const uint64_t *pages, uint16_t count, uint16_t start,
                                          hvpm_reply *reply, char *line, size_t line_size);
 
 /* HvWithdrawMemory, a rep call: moves a page of the pool to the caller, and stores it in pages[start]. */
-HVPM_INLINE uint32_t hvpm_withdraw_memory(hvpm_machine *machine, hvpm_caller by, uint64_t partition,
+HVPM_RESULT uint32_t hvpm_withdraw_memory(hvpm_machine *machine, hvpm_caller by, uint64_t partition,
                                           uint64_t *pages, uint16_t count, uint16_t start, hvpm_reply *reply,
                                           char *line, size_t line_size);
 
 /* HvGetMemoryBalance. Stores how many pages of the partition's pool are available and how many are in use. */
-HVPM_INLINE uint32_t hvpm_get_memory_balance(hvpm_machine *machine, hvpm_caller by, uint64_t partition,
+HVPM_RESULT uint32_t hvpm_get_memory_balance(hvpm_machine *machine, hvpm_caller by, uint64_t partition,
                                              uint64_t *available, uint64_t *in_use, hvpm_reply *reply,
                                              char *line, size_t line_size);
 
 /* HvCreateVp: creates the processor with index `vp`, 0 to 63. */
-HVPM_INLINE uint32_t hvpm_create_vp(hvpm_machine *machine, hvpm_caller by, uint64_t partition, uint32_t vp,
+HVPM_RESULT uint32_t hvpm_create_vp(hvpm_machine *machine, hvpm_caller by, uint64_t partition, uint32_t vp,
                                     hvpm_reply *reply, char *line, size_t line_size);
 
 /* HvDeleteVp: deletes a processor with its registers, messages, event flags and pending vectors. */
-HVPM_INLINE uint32_t hvpm_delete_vp(hvpm_machine *machine, hvpm_caller by, uint64_t partition, uint32_t vp,
+HVPM_RESULT uint32_t hvpm_delete_vp(hvpm_machine *machine, hvpm_caller by, uint64_t partition, uint32_t vp,
                                     hvpm_reply *reply, char *line, size_t line_size);
 
 /* HvGetVpRegisters, a rep call: stores the value of register registers[start].name in its `value`. */
-HVPM_INLINE uint32_t hvpm_get_vp_registers(hvpm_machine *machine, hvpm_caller by, uint64_t partition,
+HVPM_RESULT uint32_t hvpm_get_vp_registers(hvpm_machine *machine, hvpm_caller by, uint64_t partition,
                                            uint32_t vp, hvpm_vp_register *registers, uint16_t count,
                                            uint16_t start, hvpm_reply *reply, char *line, size_t line_size);
 
 /* HvSetVpRegisters, a rep call: sets register registers[start].name to its `value`. */
-HVPM_INLINE uint32_t hvpm_set_vp_registers(hvpm_machine *machine, hvpm_caller by, uint64_t partition,
+HVPM_RESULT uint32_t hvpm_set_vp_registers(hvpm_machine *machine, hvpm_caller by, uint64_t partition,
                                            uint32_t vp, const hvpm_vp_register *registers, uint16_t count,
                                            uint16_t start, hvpm_reply *reply, char *line, size_t line_size);
 
 /* HvDeletePort. Connections to the port remain. */
-HVPM_INLINE uint32_t hvpm_delete_port(hvpm_machine *machine, hvpm_caller by, uint64_t partition,
+HVPM_RESULT uint32_t hvpm_delete_port(hvpm_machine *machine, hvpm_caller by, uint64_t partition,
                                       uint32_t port, hvpm_reply *reply, char *line, size_t line_size);
 
 /* HvDisconnectPort: deletes a connection of the partition. */
-HVPM_INLINE uint32_t hvpm_disconnect_port(hvpm_machine *machine, hvpm_caller by, uint64_t partition,
+HVPM_RESULT uint32_t hvpm_disconnect_port(hvpm_machine *machine, hvpm_caller by, uint64_t partition,
                                           uint32_t connection, hvpm_reply *reply, char *line,
                                           size_t line_size);
 
@@ -459,20 +505,20 @@ HVPM_INLINE uint32_t hvpm_disconnect_port(hvpm_machine *machine, hvpm_caller by,
  * HvPostMessage: posts a message through a connection of the caller. Rule P7 refuses a payload of more than
  * 240 bytes; no byte past the 240th is read.
  */
-HVPM_INLINE uint32_t hvpm_post_message(hvpm_machine *machine, hvpm_caller by, uint32_t connection,
+HVPM_RESULT uint32_t hvpm_post_message(hvpm_machine *machine, hvpm_caller by, uint32_t connection,
                                        uint32_t type, const void *payload, uint32_t payload_size,
                                        hvpm_reply *reply, char *line, size_t line_size);
 
 /* HvSignalEvent: signals through a connection of the caller. `flag` counts from the port's `base_flag`. */
-HVPM_INLINE uint32_t hvpm_signal_event(hvpm_machine *machine, hvpm_caller by, uint32_t connection,
+HVPM_RESULT uint32_t hvpm_signal_event(hvpm_machine *machine, hvpm_caller by, uint32_t connection,
                                        uint16_t flag, hvpm_reply *reply, char *line, size_t line_size);
 
 /* HvCreatePort. */
-HVPM_INLINE uint32_t hvpm_create_port(hvpm_machine *machine, hvpm_caller by, const hvpm_port *port,
+HVPM_RESULT uint32_t hvpm_create_port(hvpm_machine *machine, hvpm_caller by, const hvpm_port *port,
                                       hvpm_reply *reply, char *line, size_t line_size);
 
 /* HvConnectPort: creates a connection to a port. */
-HVPM_INLINE uint32_t hvpm_connect_port(hvpm_machine *machine, hvpm_caller by,
+HVPM_RESULT uint32_t hvpm_connect_port(hvpm_machine *machine, hvpm_caller by,
                                        const hvpm_connection *connection, hvpm_reply *reply, char *line,
                                        size_t line_size);
 
@@ -490,21 +536,21 @@ HVPM_INLINE uint32_t hvpm_connect_port(hvpm_machine *machine, hvpm_caller by,
  */
 
 /* HvDepositMemory: moves the caller's pages to the partition's pool. */
-HVPM_INLINE uint32_t hvpm_deposit_pages(hvpm_machine *machine, hvpm_caller by, uint64_t partition,
+HVPM_RESULT uint32_t hvpm_deposit_pages(hvpm_machine *machine, hvpm_caller by, uint64_t partition,
                                         const uint64_t *pages, size_t count, size_t *made,
                                         hvpm_reply *reply);
 
 /* HvWithdrawMemory: moves pages of the pool to the caller, and stores them in `pages`. */
-HVPM_INLINE uint32_t hvpm_withdraw_pages(hvpm_machine *machine, hvpm_caller by, uint64_t partition,
+HVPM_RESULT uint32_t hvpm_withdraw_pages(hvpm_machine *machine, hvpm_caller by, uint64_t partition,
                                          uint64_t *pages, size_t count, size_t *made, hvpm_reply *reply);
 
 /* HvGetVpRegisters: stores the value of each register in its `value`. */
-HVPM_INLINE uint32_t hvpm_read_registers(hvpm_machine *machine, hvpm_caller by, uint64_t partition,
+HVPM_RESULT uint32_t hvpm_read_registers(hvpm_machine *machine, hvpm_caller by, uint64_t partition,
                                          uint32_t vp, hvpm_vp_register *registers, size_t count,
                                          size_t *made, hvpm_reply *reply);
 
 /* HvSetVpRegisters: sets each register to its `value`. It stops after a write of EOM that shows a message. */
-HVPM_INLINE uint32_t hvpm_write_registers(hvpm_machine *machine, hvpm_caller by, uint64_t partition,
+HVPM_RESULT uint32_t hvpm_write_registers(hvpm_machine *machine, hvpm_caller by, uint64_t partition,
                                           uint32_t vp, const hvpm_vp_register *registers, size_t count,
                                           size_t *made, hvpm_reply *reply);
 
@@ -512,61 +558,124 @@ HVPM_INLINE uint32_t hvpm_write_registers(hvpm_machine *machine, hvpm_caller by,
 
 /*
  * A look reads a machine without an event. It isn't counted, has no audit line, needs no privilege, and,
- * except for hvpm_table(), allocates no memory. It changes nothing, but it is a call: don't make one while
- * another thread uses the handle.
+ * except for hvpm_table() and hvpm_explain(), allocates no memory. It writes neither the handle nor what the
+ * handle leads to, so any number of looks may run at once, in any threads. Don't look while another thread
+ * makes an event, boots or destroys.
  *
  * A look returns HVPM_STATUS_NONE if what it names doesn't exist. `of` may be any processor, even one of a
  * partition that isn't Active.
  */
 
 /* Reads the message slot of a SINT: the 256 bytes that hvpm_read_slot() outputs. */
-HVPM_INLINE uint32_t hvpm_peek_slot(const hvpm_machine *machine, hvpm_caller of, uint8_t sint,
+HVPM_RESULT uint32_t hvpm_peek_slot(const hvpm_machine *machine, hvpm_caller of, uint8_t sint,
                                     uint8_t out[256]);
 
 /* Reads the event flags of a SINT: the 256 bytes that hvpm_read_flags() outputs. */
-HVPM_INLINE uint32_t hvpm_peek_flags(const hvpm_machine *machine, hvpm_caller of, uint8_t sint,
+HVPM_RESULT uint32_t hvpm_peek_flags(const hvpm_machine *machine, hvpm_caller of, uint8_t sint,
                                      uint8_t out[256]);
 
 /* Reads a model-specific register. */
-HVPM_INLINE uint32_t hvpm_peek_msr(const hvpm_machine *machine, hvpm_caller of, uint32_t msr,
+HVPM_RESULT uint32_t hvpm_peek_msr(const hvpm_machine *machine, hvpm_caller of, uint32_t msr,
                                    uint64_t *value);
 
 /* Reads the pending vectors: vector v is bit v % 64 of pending[v / 64]. */
-HVPM_INLINE uint32_t hvpm_peek_pending(const hvpm_machine *machine, hvpm_caller of, uint64_t pending[4]);
+HVPM_RESULT uint32_t hvpm_peek_pending(const hvpm_machine *machine, hvpm_caller of, uint64_t pending[4]);
 
 /* Reads a partition. */
-HVPM_INLINE uint32_t hvpm_peek_partition(const hvpm_machine *machine, uint64_t id, hvpm_partition *out);
+HVPM_RESULT uint32_t hvpm_peek_partition(const hvpm_machine *machine, uint64_t id, hvpm_partition *out);
 
 /* Reads a port of a partition. */
-HVPM_INLINE uint32_t hvpm_peek_port(const hvpm_machine *machine, uint64_t partition, uint32_t id,
+HVPM_RESULT uint32_t hvpm_peek_port(const hvpm_machine *machine, uint64_t partition, uint32_t id,
                                     hvpm_port *out);
 
 /* Reads a connection of a partition. Its port may no longer exist. */
-HVPM_INLINE uint32_t hvpm_peek_connection(const hvpm_machine *machine, uint64_t partition, uint32_t id,
+HVPM_RESULT uint32_t hvpm_peek_connection(const hvpm_machine *machine, uint64_t partition, uint32_t id,
                                           hvpm_connection *out);
 
 /*
  * Stores the child with the lowest id above `previous` in `*child`, or 0 if there is none. Pass 0 for the
  * first.
  */
-HVPM_INLINE uint32_t hvpm_child_after(const hvpm_machine *machine, uint64_t parent, uint64_t previous,
+HVPM_RESULT uint32_t hvpm_child_after(const hvpm_machine *machine, uint64_t parent, uint64_t previous,
                                       uint64_t *child);
 
-/* Stores the partition that owns a page in `*owner`. Takes time linear in the number of ids ever used. */
-HVPM_INLINE uint32_t hvpm_page_owner(const hvpm_machine *machine, uint64_t page, uint64_t *owner);
+/*
+ * Stores the partition that owns a page in `*owner`. Takes time linear in the number of partition ids ever
+ * used: 1 to 3 milliseconds with 14,000 of them. For the pages of one partition, call hvpm_page_after().
+ */
+HVPM_RESULT uint32_t hvpm_page_owner(const hvpm_machine *machine, uint64_t page, uint64_t *owner);
+
+/*
+ * The four functions below list what a partition has. Each stores the one with the lowest number above
+ * `previous`, or returns HVPM_STATUS_NONE if there is none, or no such partition. Pass HVPM_FIRST for the
+ * first:
+ *
+ *     for (uint32_t vp = HVPM_FIRST; hvpm_vp_after(&machine, 2, vp, &vp) == HVPM_STATUS_OK;) ...
+ *
+ * After HVPM_EFFECT_PAGES, the pages of the deleted partition are among those of another one:
+ *
+ *     hvpm_page_run run;
+ *     for (uint64_t last = HVPM_FIRST;
+ *          hvpm_page_after(&machine, reply.effect.partition, last, &run) == HVPM_STATUS_OK;
+ *          last = run.page + run.count - 1)
+ *         if (!run.pooled) map(run.page, run.count);
+ */
+
+/* No page, processor, port or connection has this number. */
+#define HVPM_FIRST UINT32_MAX
+
+/* Stores the index of the next processor in `*vp`. */
+HVPM_RESULT uint32_t hvpm_vp_after(const hvpm_machine *machine, uint64_t partition, uint32_t previous,
+                                   uint32_t *vp);
+
+/* Stores the id of the next port in `*id`. */
+HVPM_RESULT uint32_t hvpm_port_after(const hvpm_machine *machine, uint64_t partition, uint32_t previous,
+                                     uint32_t *id);
+
+/* Stores the id of the next connection in `*id`. */
+HVPM_RESULT uint32_t hvpm_connection_after(const hvpm_machine *machine, uint64_t partition,
+                                           uint32_t previous, uint32_t *id);
+
+/*
+ * Stores the next page in `run->page`, and in `run->count` how many pages follow each other from it on, all of
+ * them pooled or all loose. Takes time logarithmic in the number of the partition's runs.
+ */
+HVPM_RESULT uint32_t hvpm_page_after(const hvpm_machine *machine, uint64_t partition, uint64_t previous,
+                                     hvpm_page_run *run);
 
 /*
  * Stores EAX, EBX, ECX and EDX of CPUID leaf 0x40000003 for a guest: the low and the high half of its
  * partition's privilege mask, 0 and 0.
  */
-HVPM_INLINE uint32_t hvpm_features(const hvpm_machine *machine, uint64_t partition, uint32_t eax_to_edx[4]);
+HVPM_RESULT uint32_t hvpm_features(const hvpm_machine *machine, uint64_t partition, uint32_t eax_to_edx[4]);
 
 /*
  * Writes the table of partitions, as `hvpm run --table` prints it, without a terminating zero, and stores its
  * length in `*len`. If `text_size` is smaller, returns HVPM_STATUS_SHORT and stores the length alone: pass
  * NULL and 0 to ask for it.
  */
-HVPM_INLINE uint32_t hvpm_table(const hvpm_machine *machine, char *text, size_t text_size, size_t *len);
+HVPM_RESULT uint32_t hvpm_table(const hvpm_machine *machine, char *text, size_t text_size, size_t *len);
+
+/* A buffer of this many bytes holds any explanation. */
+#define HVPM_EXPLANATION 2048
+
+/*
+ * Writes what `hvpm explain` says of a hypercall: its fields and output in words, and for a refused one the
+ * rule with the values that decided. Call it after the event and before the next one, with what the event was
+ * called with. There is no terminating zero and no line feed. `text`, `text_size` and `len` are those of
+ * hvpm_table().
+ *
+ *     HvCreatePartition flags 0x0: denied HV_STATUS_INSUFFICIENT_MEMORY, P24: too few pages are available
+ *     (needs 2 pages, partition 2 has 0 available)
+ */
+HVPM_RESULT uint32_t hvpm_explain(const hvpm_machine *machine, hvpm_caller by, const hvpm_registers *registers,
+                                  const void *input, size_t input_len, const hvpm_reply *reply, char *text,
+                                  size_t text_size, size_t *len);
+
+/* Like hvpm_explain(), of an access. `access`, `number` and `value` are those of hvpm_access_line(). */
+HVPM_RESULT uint32_t hvpm_explain_access(const hvpm_machine *machine, hvpm_caller by, uint32_t access,
+                                         uint32_t number, uint64_t value, const hvpm_reply *reply, char *text,
+                                         size_t text_size, size_t *len);
 
 /* Returns whether the machine implements this model-specific register. The VMM handles all others. */
 HVPM_INLINE bool hvpm_is_msr(uint32_t msr);
@@ -577,24 +686,35 @@ HVPM_INLINE bool hvpm_is_call(uint16_t code);
 /* ---- Recording ---- */
 
 /*
+ * A machine whose `record` isn't NULL records each event, served or not: hypercalls, typed calls, lists,
+ * accesses, and the events that hvpm_pages.h makes in a guest's place.
+ *
+ *     static hvpm_record record;                    // zeros
+ *     machine.record = &record;                     // before hvpm_boot()
+ *     ... hvpm_boot(&machine, &config) ...
+ *     ... any events; after each, or after many:
+ *     fwrite(record.script.at, 1, record.script.len, script), record.script.len = 0;
+ *     fwrite(record.audit.at, 1, record.audit.len, audit), record.audit.len = 0;
+ *     ... at the end:
+ *     fprintf(audit, "events %" PRIu64 "\n", machine.events);
+ *     hvpm_record_free(&record);
+ *
+ * `hvpm run SCRIPT --serial` then prints that audit. A record is of one machine. Its texts grow by realloc.
+ * It never changes what a call does: if memory runs out, it ends, and `is_cut` is true. A script has a rep
+ * call as one line, which executes all of its elements. So the record also ends where another event comes
+ * between two elements, or where a list function stops before the end of its list and is called again.
+ *
+ * A script has at most 1,048,576 bytes: docs/EMBEDDING.md says how to use a longer one.
+ */
+
+/* Frees the texts of a record, and leaves it with zeros. */
+HVPM_INLINE void hvpm_record_free(hvpm_record *record);
+
+/*
  * The two functions below write an event as a line of a script, with its line feed and without a terminating
- * zero. `hvpm run SCRIPT --serial` then repeats the events, and prints the audit lines that this library
- * returned. Begin the script with the line of its boot, which ends with a number that is at least the number
- * of events:
- *
- *     printf("boot %" PRIu32 " %" PRIu32 " %" PRIu32 " 0x%" PRIx64 " %" PRIu32 "\n",
- *            config.pages, config.pool, config.vps, config.mask, UINT32_MAX);
- *
- * Record every event, served or not, in the order of the calls. A rep call is one line, which executes all of
- * its elements: record only the first, and none that hvpm_next() leads to. A rep call that other events
- * interrupted, or that wasn't finished, runs differently.
- *
- * A phase of a script has at most 64 processors: write a line "phase\n" before the first line of the 65th. A
- * script has at most 1,048,576 bytes. Send a longer recording to `hvpm serve`, which answers with the audit
- * lines.
- *
- * Neither function uses a machine; both allocate memory. Both store the line's length in `*len`. If
- * `text_size` is smaller, they return HVPM_STATUS_SHORT and store the length alone.
+ * zero. Neither uses a machine; both allocate memory. Both store the line's length in `*len`. If `text_size`
+ * is smaller, they return HVPM_STATUS_SHORT and store the length alone. Of a rep call the line of the first
+ * element stands for all.
  */
 
 /* A buffer of this many bytes holds the line of any access, and of any hypercall without input. */
@@ -607,7 +727,7 @@ HVPM_INLINE bool hvpm_is_call(uint16_t code);
  * Writes the line of a hypercall, given as hvpm_hypercall() takes it. The line has the bytes of the call's
  * input list, the first 4,096 of them: no list that rule P6 lets pass is longer.
  */
-HVPM_INLINE uint32_t hvpm_hypercall_line(hvpm_caller by, const hvpm_registers *registers, const void *input,
+HVPM_RESULT uint32_t hvpm_hypercall_line(hvpm_caller by, const hvpm_registers *registers, const void *input,
                                          size_t input_len, char *text, size_t text_size, size_t *len);
 
 /* The accesses. */
@@ -625,13 +745,16 @@ enum hvpm_access {
  * Writes the line of an access. `access` is an enum hvpm_access, which says what `number` and `value` mean.
  * Arguments that it doesn't use are ignored. Returns HVPM_STATUS_NONE if there is no such access.
  */
-HVPM_INLINE uint32_t hvpm_access_line(hvpm_caller by, uint32_t access, uint32_t number, uint64_t value,
+HVPM_RESULT uint32_t hvpm_access_line(hvpm_caller by, uint32_t access, uint32_t number, uint64_t value,
                                       char *text, size_t text_size, size_t *len);
 
 /* ---- Version and names ---- */
 
+/* Returns the library's HVPM_VERSION, or this header's if the functions are inline. */
+HVPM_INLINE uint32_t hvpm_version_number(void);
+
 /*
- * These functions return static strings, terminated by a zero and never NULL. For a number without a name
+ * The functions below return static strings, terminated by a zero and never NULL. For a number without a name
  * they return "unknown".
  */
 
@@ -664,8 +787,8 @@ uint32_t hv_embed_hypercall(hvpm_machine *machine, hvpm_caller by, const hvpm_re
                             const uint8_t *input, size_t input_len, hvpm_reply *reply, uint8_t *line,
                             size_t line_size);
 uint32_t hv_embed_run(hvpm_machine *machine, hvpm_caller by, const hvpm_registers *registers,
-                      const uint8_t *input, size_t input_len, hvpm_reply *reply, uint8_t *outputs,
-                      size_t outputs_size, hvpm_run_done *done);
+                      const uint8_t *input, size_t input_len, uint32_t most, hvpm_reply *reply,
+                      uint8_t *outputs, size_t outputs_size, hvpm_run_done *done);
 uint32_t hv_embed_read_msr(hvpm_machine *machine, hvpm_caller by, uint32_t msr, hvpm_reply *reply,
                            uint8_t *line, size_t line_size);
 uint32_t hv_embed_write_msr(hvpm_machine *machine, hvpm_caller by, uint32_t msr, uint64_t value,
@@ -691,8 +814,20 @@ uint32_t hv_embed_peek_connection(hvpm_machine *machine, uint64_t partition, uin
                                   hvpm_connection *out);
 uint32_t hv_embed_child_after(hvpm_machine *machine, uint64_t parent, uint64_t previous, uint64_t *child);
 uint32_t hv_embed_page_owner(hvpm_machine *machine, uint64_t page, uint64_t *owner);
+uint32_t hv_embed_vp_after(hvpm_machine *machine, uint64_t partition, uint32_t previous, uint32_t *vp);
+uint32_t hv_embed_port_after(hvpm_machine *machine, uint64_t partition, uint32_t previous, uint32_t *id);
+uint32_t hv_embed_connection_after(hvpm_machine *machine, uint64_t partition, uint32_t previous,
+                                   uint32_t *id);
+uint32_t hv_embed_page_after(hvpm_machine *machine, uint64_t partition, uint64_t previous,
+                             hvpm_page_run *run);
 uint32_t hv_embed_features(hvpm_machine *machine, uint64_t partition, uint32_t *out);
 uint32_t hv_embed_table(hvpm_machine *machine, uint8_t *text, size_t text_size, size_t *len);
+uint32_t hv_embed_explain(hvpm_machine *machine, hvpm_caller by, const hvpm_registers *registers,
+                          const uint8_t *input, size_t input_len, const hvpm_reply *reply, uint8_t *text,
+                          size_t text_size, size_t *len);
+uint32_t hv_embed_explain_access(hvpm_machine *machine, hvpm_caller by, uint32_t access, uint32_t number,
+                                 uint64_t value, const hvpm_reply *reply, uint8_t *text, size_t text_size,
+                                 size_t *len);
 uint32_t hv_embed_hypercall_line(hvpm_caller by, const hvpm_registers *registers, const uint8_t *input,
                                  size_t input_len, uint8_t *text, size_t text_size, size_t *len);
 uint32_t hv_embed_access_line(hvpm_caller by, uint32_t access, uint32_t number, uint64_t value, uint8_t *text,
@@ -711,13 +846,16 @@ bool hv_embed_is_call(uint16_t code);
 #define HVPM_HOLDS(what) _Static_assert(what, "the layout of the library")
 #endif
 
-HVPM_HOLDS(sizeof(hvpm_machine) == 24 && offsetof(hvpm_machine, events) == 8 &&
+HVPM_HOLDS(sizeof(hvpm_machine) == 32 && offsetof(hvpm_machine, events) == 8 &&
            offsetof(hvpm_machine, at) == 16);
+HVPM_HOLDS(sizeof(hvpm_text) == 24 && sizeof(hvpm_record) == 1104 && offsetof(hvpm_record, vp) == 56);
 HVPM_HOLDS(sizeof(hvpm_config) == 24 && offsetof(hvpm_config, pages) == 8 &&
            offsetof(hvpm_config, vps) == 16);
 HVPM_HOLDS(sizeof(hvpm_caller) == 16 && offsetof(hvpm_caller, vp) == 8);
 HVPM_HOLDS(sizeof(hvpm_registers) == 24 && offsetof(hvpm_registers, r8) == 16);
 HVPM_HOLDS(sizeof(hvpm_run_done) == 8 && offsetof(hvpm_run_done, output_len) == 4);
+HVPM_HOLDS(sizeof(hvpm_page_run) == 16 && offsetof(hvpm_page_run, count) == 8 &&
+           offsetof(hvpm_page_run, pooled) == 12);
 HVPM_HOLDS(sizeof(hvpm_partition) == 64 && offsetof(hvpm_partition, life) == 40 &&
            offsetof(hvpm_partition, connections) == 56);
 HVPM_HOLDS(sizeof(hvpm_port) == 40 && offsetof(hvpm_port, peer) == 16 &&

@@ -55,6 +55,11 @@ class machine {
         return handle.events;
     }
 
+    /* Records the events from now on, or none if it is null: "Recording" in hvpm.h. */
+    void record(hvpm_record *to) {
+        handle.record = to;
+    }
+
     /* Executes one hypercall, without an audit line. */
     uint32_t hypercall(hvpm_caller by, const hvpm_registers &registers, hvpm_reply &reply) {
         return hypercall(by, registers, reply, nullptr, 0);

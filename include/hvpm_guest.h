@@ -41,7 +41,7 @@ typedef struct hvpm_guest_cpu {
 } hvpm_guest_cpu;
 
 /* Helper: joins two 32-bit registers. */
-HVPM_INLINE uint64_t hvpm_guest_pair(uint64_t high, uint64_t low) {
+static inline uint64_t hvpm_guest_pair(uint64_t high, uint64_t low) {
     return high << 32 | (uint32_t)low;
 }
 
@@ -118,6 +118,7 @@ HVPM_INLINE uint64_t hvpm_guest_no_list(const hvpm_registers *call) {
 enum hvpm_guest_msr {
     HVPM_MSR_GUEST_OS_ID = 0x40000000,   /* per partition: the guest OS id, 0 at first */
     HVPM_MSR_HYPERCALL = 0x40000001,     /* per partition: where its hypercall page is */
+    HVPM_MSR_REFERENCE_TSC = 0x40000021, /* per partition: where its TSC page is */
     HVPM_MSR_VP_ASSIST_PAGE = 0x40000073 /* per processor */
 };
 
@@ -126,6 +127,7 @@ typedef struct hvpm_guest {
     uint64_t os_id;
     uint64_t hypercall;  /* bit 0 the page is enabled, bit 1 locked, bits 63:12 its number */
     uint64_t assist[64]; /* by the index of the processor */
+    uint64_t tsc_page;   /* bit 0 the page is enabled, bits 63:12 its number: see hvpm_guest_tsc_page() */
 } hvpm_guest;
 
 /* What the VMM does for an MSR access. */
@@ -140,7 +142,9 @@ enum hvpm_guest_access {
 
 /*
  * The bit of a privilege mask without which a guest gets #GP at an MSR; 0 if none is needed. It covers the
- * MSRs that the TLFS puts behind a privilege, most of which neither the machine nor this header has.
+ * MSRs that the TLFS puts behind a privilege, most of which neither the machine nor this header has. It leaves
+ * out HVPM_MSR_REFERENCE_TSC, which the TLFS puts behind bit 9: Linux reads and writes it at each kexec without
+ * asking for that, and dumps its stack after a #GP.
  */
 HVPM_INLINE uint64_t hvpm_guest_privilege(uint32_t msr) {
     static const struct {
@@ -151,7 +155,6 @@ HVPM_INLINE uint64_t hvpm_guest_privilege(uint32_t msr) {
         {0x40000003, 0x40000003, 7},  /* reset: AccessResetMsr */
         {0x40000010, 0x40000010, 0},  /* VP run time: AccessVpRunTimeMsr */
         {0x40000020, 0x40000020, 1},  /* reference time: AccessPartitionReferenceCounter */
-        {0x40000021, 0x40000021, 9},  /* reference TSC page: AccessPartitionReferenceTsc */
         {0x40000022, 0x40000023, 11}, /* frequencies of TSC and APIC: AccessFrequencyMsrs */
         {0x40000070, 0x40000072, 4},  /* EOI, ICR and TPR: AccessApicMsrs */
         {0x40000080, 0x40000084, 2},  /* SynIC: AccessSynicRegs */
@@ -182,6 +185,7 @@ HVPM_INLINE enum hvpm_guest_access hvpm_guest_read_msr(const hvpm_guest *guest, 
     switch (msr) {
     case HVPM_MSR_GUEST_OS_ID: *value = guest->os_id; return HVPM_GUEST_DONE;
     case HVPM_MSR_HYPERCALL: *value = guest->hypercall; return HVPM_GUEST_DONE;
+    case HVPM_MSR_REFERENCE_TSC: *value = guest->tsc_page; return HVPM_GUEST_DONE;
     case HVPM_MSR_VP_ASSIST_PAGE: *value = guest->assist[vp % 64]; return HVPM_GUEST_DONE;
     default: return HVPM_GUEST_OTHER;
     }
@@ -191,7 +195,7 @@ HVPM_INLINE enum hvpm_guest_access hvpm_guest_read_msr(const hvpm_guest *guest, 
  * Helper: writes the MSR of the hypercall page. The page can't be enabled while the guest OS id is 0, nor
  * outside the guest's memory. A locked page stays until a reset.
  */
-HVPM_INLINE enum hvpm_guest_access hvpm_guest_move_code(hvpm_guest *guest, uint64_t value, bool is_memory) {
+static inline enum hvpm_guest_access hvpm_guest_move_code(hvpm_guest *guest, uint64_t value, bool is_memory) {
     const bool enables = (value & 1) != 0 && guest->os_id != 0;
     if (guest->hypercall >> 1 & 1) return HVPM_GUEST_DONE;
     if (enables && !is_memory) return HVPM_GUEST_FAULT;
@@ -217,6 +221,7 @@ HVPM_INLINE enum hvpm_guest_access hvpm_guest_write_msr(hvpm_guest *guest, uint3
         if (value == 0) guest->hypercall &= ~UINT64_C(1);
         return HVPM_GUEST_DONE;
     case HVPM_MSR_HYPERCALL: return hvpm_guest_move_code(guest, value, is_memory);
+    case HVPM_MSR_REFERENCE_TSC: guest->tsc_page = value; return HVPM_GUEST_DONE;
     case HVPM_MSR_VP_ASSIST_PAGE: guest->assist[vp % 64] = value; return HVPM_GUEST_DONE;
     default: return HVPM_GUEST_OTHER;
     }
@@ -224,26 +229,77 @@ HVPM_INLINE enum hvpm_guest_access hvpm_guest_write_msr(hvpm_guest *guest, uint3
 
 /* ---- CPUID ---- */
 
+/* The bits of a mask for the MSRs that the machine and this header serve: SynIC, hypercall page, VP index. */
+#define HVPM_GUEST_SERVED 0x64
+
 /*
  * EAX, EBX, ECX and EDX of a CPUID leaf from 0x40000000 to 0x40000005, for a partition with this privilege
  * mask. Returns false for any other leaf, and then writes nothing: leaves above are zeros, and leaf 1 is the
  * processor's with bit 31 of ECX set. A VMM with features of its own adds their bits to EDX of 0x40000003.
  *
+ * `served` has the bits of the MSRs that the VMM itself serves, such as bit 1 for reference time and bit 9 for
+ * its page. The low half of the mask in leaf 0x40000003 announces only these and HVPM_GUEST_SERVED: a guest
+ * would get #GP at any others.
+ *
  * Leaf 0x40000004 tells the guest not to use AutoEOI (bit 9 of EAX), which the machine ignores, and never to
  * report long spinning (EBX). Build and version, in leaf 0x40000002, are arbitrary.
  */
-HVPM_INLINE bool hvpm_guest_cpuid(uint32_t leaf, uint64_t mask, uint32_t eax_to_edx[4]) {
+HVPM_INLINE bool hvpm_guest_cpuid(uint32_t leaf, uint64_t mask, uint32_t served,
+                                  uint32_t eax_to_edx[4]) {
     const uint32_t leaves[][4] = {
         {0x40000005, 0x7263694D, 0x666F736F, 0x76482074}, /* the last leaf, and "Microsoft Hv" */
         {0x31237648, 0, 0, 0},                            /* "Hv#1": this interface */
         {20348, 10u << 16, 0, 0},                         /* build, and version 10.0 */
-        {(uint32_t)mask, (uint32_t)(mask >> 32), 0, 0},   /* privileges */
+        {(uint32_t)mask & (HVPM_GUEST_SERVED | served), (uint32_t)(mask >> 32), 0, 0}, /* privileges */
         {1u << 9, 0xFFFFFFFF, 0, 0},                      /* recommendations */
         {64, 64, 0, 0}};                                  /* most virtual and logical processors */
     const uint32_t index = leaf - 0x40000000; /* of a lower leaf a large one */
     if (index >= sizeof leaves / sizeof *leaves) return false;
     __builtin_memcpy(eax_to_edx, leaves[index], sizeof *leaves);
     return true;
+}
+
+/* ---- Reference time ---- */
+
+/*
+ * A partition's reference time counts units of 100 ns (TLFS 4.0, "Timers"). It is TSC * scale / 2^64 + offset,
+ * here and in the guest, which computes it from the page. A VMM that serves it has bit 1 (MSR 0x40000020) or
+ * bit 9 (the page) in the mask and in `served`.
+ *
+ * hvpm_guest_tsc_scale() returns the scale for a TSC of this frequency, which is above 10,000,000 Hz;
+ * otherwise 0. The offset is minus the reference time that the TSC alone gives where the partition's time
+ * begins, or where a restored one goes on.
+ */
+HVPM_INLINE uint64_t hvpm_guest_tsc_scale(uint64_t frequency) {
+    uint64_t rest = 10000000, scale = 0;
+    if (frequency <= rest) return 0;
+    for (uint32_t i = 0; i < 64; i++) { /* 10,000,000 * 2^64 / frequency */
+        const bool is_over = rest >= frequency - rest;
+        scale = scale << 1 | is_over;
+        rest = is_over ? rest - (frequency - rest) : 2 * rest;
+    }
+    return scale;
+}
+
+/* Returns the reference time at this TSC: the value of MSR 0x40000020. */
+HVPM_INLINE uint64_t hvpm_guest_reference_time(uint64_t tsc, uint64_t scale, int64_t offset) {
+    const uint64_t low = (uint32_t)tsc, high = tsc >> 32;
+    const uint64_t by_low = (uint32_t)scale, by_high = scale >> 32;
+    const uint64_t middle = high * by_low + (low * by_low >> 32), rest = low * by_high + (uint32_t)middle;
+    return high * by_high + (middle >> 32) + (rest >> 32) + (uint64_t)offset;
+}
+
+/*
+ * Writes the first 24 bytes of the reference TSC page, the others being zero. After a guest enabled the page by
+ * HVPM_MSR_REFERENCE_TSC, copy them to bits 63:12 of `tsc_page`. `sequence` is neither 0 nor 0xFFFFFFFF, with
+ * which the guest reads the MSR instead, and is another one after each change. While other processors may read
+ * the page, write its first 4 bytes as 0 first, then bytes 8 to 23, and the sequence last.
+ */
+HVPM_INLINE void hvpm_guest_tsc_page(uint32_t sequence, uint64_t scale, int64_t offset, uint8_t page[24]) {
+    __builtin_memset(page, 0, 24);
+    __builtin_memcpy(page, &sequence, sizeof sequence);
+    __builtin_memcpy(page + 8, &scale, sizeof scale);
+    __builtin_memcpy(page + 16, &offset, sizeof offset);
 }
 
 #endif

@@ -30,8 +30,195 @@ static inline uint32_t hvpm_put_out(uint32_t status, const hvpm_reply *reply, ui
     return status;
 }
 
+HVPM_INLINE uint64_t hvpm_next(uint64_t rcx, const hvpm_reply *reply) {
+    return (rcx & ~(UINT64_C(0xFFF) << 48)) | (uint64_t)reply->next << 48;
+}
+
+/* ---- Recording ---- */
+
+/* Keeps what only a machine with a record needs out of the others' way. */
+#define HVPM_COLD static __attribute__((cold, unused))
+
+/* Makes room for more bytes at the end of a text. Returns whether there is. */
+static inline bool hvpm_make_room(hvpm_text *text, size_t more) {
+    if (text->size - text->len >= more) return true;
+    const size_t size = 2 * (text->len + more);
+    char *const at = (char *)__builtin_realloc(text->at, size);
+    if (!at) return false;
+    text->at = at, text->size = size;
+    return true;
+}
+
+/* Returns the record of a machine, if its next event is recorded: there is room for the lines then, and
+ * `input_len` bytes of an input list. */
+static inline hvpm_record *hvpm_recording(const hvpm_machine *machine, size_t input_len) {
+    hvpm_record *const record = machine->record;
+    const size_t most = HVPM_CALL_LINE - HVPM_EVENT_LINE;
+    if (!record || record->is_cut) return NULL;
+    const size_t room = HVPM_EVENT_LINE + sizeof "phase" + (input_len < most / 2 ? 2 * input_len : most);
+    record->is_cut = !hvpm_make_room(&record->script, room) || !hvpm_make_room(&record->audit, HVPM_LINE);
+    return record->is_cut ? NULL : record;
+}
+
+/* Returns where the audit line of the next event goes, and how much room it has: in the record, which the
+ * line is copied from, or in the caller's buffer. */
+static inline uint8_t *hvpm_line_at(const hvpm_record *record, char *line, size_t *line_size) {
+    if (!record) return hvpm_or_none(line, *line_size);
+    if (*line_size == 0 || *line_size > HVPM_LINE) *line_size = HVPM_LINE;
+    return (uint8_t *)record->audit.at + record->audit.len;
+}
+
+/* Keeps the audit line of an event, and gives it to a caller who asked for it. */
+static inline void hvpm_keep(hvpm_record *record, hvpm_reply *reply, char *line, size_t line_size) {
+    if (line_size != 0) __builtin_memcpy(line, record->audit.at + record->audit.len, reply->line_len);
+    if (!record->is_cut) record->audit.len += reply->line_len;
+    if (line_size == 0) reply->line_len = 0;
+}
+
+/* Writes a text and a number to the end of a text that has room. */
+static inline void hvpm_put_number(hvpm_text *text, const char *before, uint64_t number, uint32_t base) {
+    char digits[20];
+    size_t count = 0;
+    for (; *before; before++) text->at[text->len++] = *before;
+    do digits[count++] = "0123456789abcdef"[number % base];
+    while ((number /= base) != 0);
+    while (count > 0) text->at[text->len++] = digits[--count];
+}
+
+static inline bool hvpm_is_caller(hvpm_caller one, hvpm_caller other) {
+    return one.partition == other.partition && one.vp == other.vp;
+}
+
+/* Begins another phase of the script before the line of a 65th processor. */
+static inline void hvpm_meet(hvpm_record *record, hvpm_caller by) {
+    uint32_t at = 0;
+    while (at < record->vps && !hvpm_is_caller(record->vp[at], by)) at++;
+    if (at < record->vps) return;
+    if (at == 64) {
+        __builtin_memcpy(record->script.at + record->script.len, "phase\n", 6);
+        record->script.len += 6, record->vps = 0;
+    }
+    record->vp[record->vps++] = by;
+}
+
+/* Writes the line of an access to the script. */
+static inline bool hvpm_note_access(hvpm_record *record, hvpm_caller by, enum hvpm_access access,
+                                    uint32_t number, uint64_t value) {
+    hvpm_text *const to = &record->script;
+    size_t len = 0;
+    if (record->rep != 0) return false; /* it comes between the elements of a rep call */
+    hvpm_meet(record, by);
+    const uint32_t status = hv_embed_access_line(by, access, number, value, (uint8_t *)to->at + to->len,
+                                                 HVPM_EVENT_LINE, &len);
+    to->len += len;
+    return status == HVPM_STATUS_OK;
+}
+
+/* Writes the line of a hypercall to the script, unless it goes on with the elements of the one before. Bytes
+ * at the end of a list that are zero need not be written. */
+static inline bool hvpm_note_call(hvpm_record *record, hvpm_caller by, const hvpm_registers *registers,
+                                  const uint8_t *input, size_t input_len) {
+    hvpm_text *const to = &record->script;
+    size_t len = 0;
+    if (record->rep != 0) return record->rep == registers->rcx && hvpm_is_caller(record->rep_by, by);
+    while (input_len > 0 && input[input_len - 1] == 0) input_len--;
+    hvpm_meet(record, by);
+    const size_t room = to->size - to->len < HVPM_CALL_LINE ? to->size - to->len : HVPM_CALL_LINE;
+    const uint32_t status = hv_embed_hypercall_line(by, registers, input, input_len,
+                                                    (uint8_t *)to->at + to->len, room, &len);
+    to->len += len;
+    return status == HVPM_STATUS_OK;
+}
+
+/* Makes an access of a machine that has a record. */
+HVPM_COLD uint32_t hvpm_make_access(hvpm_machine *machine, hvpm_caller by, enum hvpm_access access,
+                                    uint32_t number, uint64_t value, hvpm_reply *reply, char *line,
+                                    size_t line_size) {
+    hvpm_record *const record = hvpm_recording(machine, 0);
+    const uint8_t sint = (uint8_t)number;
+    const uint16_t flag = (uint16_t)value;
+    uint32_t status = HVPM_STATUS_NONE;
+    size_t room = line_size;
+    uint8_t *const at = hvpm_line_at(record, line, &room);
+    switch (access) {
+    case HVPM_READ_MSR: status = hv_embed_read_msr(machine, by, number, reply, at, room); break;
+    case HVPM_WRITE_MSR: status = hv_embed_write_msr(machine, by, number, value, reply, at, room); break;
+    case HVPM_READ_SLOT: status = hv_embed_read_slot(machine, by, sint, reply, at, room); break;
+    case HVPM_CLEAR_SLOT: status = hv_embed_clear_slot(machine, by, sint, reply, at, room); break;
+    case HVPM_READ_FLAGS: status = hv_embed_read_flags(machine, by, sint, reply, at, room); break;
+    case HVPM_CLEAR_FLAG: status = hv_embed_clear_flag(machine, by, sint, flag, reply, at, room); break;
+    case HVPM_TAKE_INTERRUPT: status = hv_embed_take_interrupt(machine, by, reply, at, room); break;
+    }
+    if (!record || status != HVPM_STATUS_OK) return status;
+    record->is_cut = !hvpm_note_access(record, by, access, number, value);
+    hvpm_keep(record, reply, line, line_size);
+    return status;
+}
+
+/* Makes a hypercall of a machine that has a record. */
+HVPM_COLD uint32_t hvpm_make_call(hvpm_machine *machine, hvpm_caller by, const hvpm_registers *registers,
+                                  const void *input, size_t input_len, hvpm_reply *reply, char *line,
+                                  size_t line_size) {
+    hvpm_record *const record = hvpm_recording(machine, input_len);
+    const uint8_t *const list = hvpm_or_none(input, input_len);
+    size_t room = line_size;
+    uint8_t *const at = hvpm_line_at(record, line, &room);
+    const uint32_t status = hv_embed_hypercall(machine, by, registers, list, input_len, reply, at, room);
+    if (!record || status != HVPM_STATUS_OK) return status;
+    record->is_cut = !hvpm_note_call(record, by, registers, list, input_len);
+    record->rep = reply->kind == HVPM_REPLY_MORE ? hvpm_next(registers->rcx, reply) : 0;
+    record->rep_by = by;
+    hvpm_keep(record, reply, line, line_size);
+    return status;
+}
+
+/* Makes what hvpm_run_at_most() makes, by single events, of a machine that has a record. */
+HVPM_COLD uint32_t hvpm_make_run(hvpm_machine *machine, hvpm_caller by, const hvpm_registers *registers,
+                                 const void *input, size_t input_len, uint32_t most, hvpm_reply *reply,
+                                 uint8_t *outputs, size_t outputs_size, hvpm_run_done *done) {
+    hvpm_registers at = *registers;
+    hvpm_run_done run = {0, 0};
+    hvpm_reply last;
+    do {
+        const uint32_t status = hvpm_make_call(machine, by, &at, input, input_len, &last, NULL, 0);
+        if (status != HVPM_STATUS_OK && run.events == 0) return status;
+        if (status != HVPM_STATUS_OK) break;
+        __builtin_memcpy(outputs + run.output_len, last.output, last.output_len);
+        run.events++, run.output_len += last.output_len;
+        at.rcx = hvpm_next(at.rcx, &last);
+        *reply = last;
+    } while (last.kind == HVPM_REPLY_MORE && run.events < most &&
+             outputs_size - run.output_len >= HVPM_OUTPUT &&
+             (last.effect.kind == HVPM_EFFECT_NOTHING || last.effect.kind == HVPM_EFFECT_PAGE));
+    *done = run;
+    return HVPM_STATUS_OK;
+}
+
+/* Writes the line of a boot to the script. */
+HVPM_COLD void hvpm_note_boot(hvpm_record *record, const hvpm_config *config) {
+    hvpm_text *const to = &record->script;
+    hvpm_put_number(to, "boot ", config->pages, 10);
+    hvpm_put_number(to, " ", config->pool, 10);
+    hvpm_put_number(to, " ", config->vps, 10);
+    hvpm_put_number(to, " 0x", config->mask, 16);
+    hvpm_put_number(to, " ", UINT32_MAX, 10);
+    to->at[to->len++] = '\n';
+}
+
+HVPM_INLINE void hvpm_record_free(hvpm_record *record) {
+    if (!record) return;
+    __builtin_free(record->script.at), __builtin_free(record->audit.at);
+    __builtin_memset(record, 0, sizeof *record);
+}
+
+/* ---- Events ---- */
+
 HVPM_INLINE uint32_t hvpm_boot(hvpm_machine *machine, const hvpm_config *config) {
-    return machine && config ? hv_embed_boot(machine, config) : (uint32_t)HVPM_STATUS_NULL;
+    if (!machine || !config) return HVPM_STATUS_NULL;
+    const uint32_t status = hv_embed_boot(machine, config);
+    hvpm_record *const record = status == HVPM_STATUS_OK ? hvpm_recording(machine, 0) : NULL;
+    if (record) hvpm_note_boot(record, config);
+    return status;
 }
 
 HVPM_INLINE void hvpm_destroy(hvpm_machine *machine) {
@@ -43,27 +230,37 @@ HVPM_INLINE uint32_t hvpm_hypercall(hvpm_machine *machine, hvpm_caller by, const
                                     size_t line_size) {
     if (hvpm_lacks(machine, reply, line, line_size) || !registers || (!input && input_len != 0))
         return HVPM_STATUS_NULL;
+    if (machine->record)
+        return hvpm_make_call(machine, by, registers, input, input_len, reply, line, line_size);
     return hv_embed_hypercall(machine, by, registers, hvpm_or_none(input, input_len), input_len, reply,
                               hvpm_or_none(line, line_size), line_size);
+}
+
+HVPM_INLINE uint32_t hvpm_run_at_most(hvpm_machine *machine, hvpm_caller by, const hvpm_registers *registers,
+                                      const void *input, size_t input_len, uint32_t most, hvpm_reply *reply,
+                                      void *outputs, size_t outputs_size, hvpm_run_done *done) {
+    if (hvpm_lacks(machine, reply, outputs, outputs_size) || !registers || !done ||
+        (!input && input_len != 0))
+        return HVPM_STATUS_NULL;
+    if (machine->record && machine->live && outputs_size >= HVPM_OUTPUT && most != 0)
+        return hvpm_make_run(machine, by, registers, input, input_len, most, reply, (uint8_t *)outputs,
+                             outputs_size, done);
+    return hv_embed_run(machine, by, registers, hvpm_or_none(input, input_len), input_len, most, reply,
+                        hvpm_or_none(outputs, outputs_size), outputs_size, done);
 }
 
 HVPM_INLINE uint32_t hvpm_run(hvpm_machine *machine, hvpm_caller by, const hvpm_registers *registers,
                               const void *input, size_t input_len, hvpm_reply *reply, void *outputs,
                               size_t outputs_size, hvpm_run_done *done) {
-    if (hvpm_lacks(machine, reply, outputs, outputs_size) || !registers || !done ||
-        (!input && input_len != 0))
-        return HVPM_STATUS_NULL;
-    return hv_embed_run(machine, by, registers, hvpm_or_none(input, input_len), input_len, reply,
-                        hvpm_or_none(outputs, outputs_size), outputs_size, done);
-}
-
-HVPM_INLINE uint64_t hvpm_next(uint64_t rcx, const hvpm_reply *reply) {
-    return (rcx & ~(UINT64_C(0xFFF) << 48)) | (uint64_t)reply->next << 48;
+    return hvpm_run_at_most(machine, by, registers, input, input_len, UINT32_MAX, reply, outputs,
+                            outputs_size, done);
 }
 
 HVPM_INLINE uint32_t hvpm_read_msr(hvpm_machine *machine, hvpm_caller by, uint32_t msr, hvpm_reply *reply,
                                    char *line, size_t line_size) {
     if (hvpm_lacks(machine, reply, line, line_size)) return HVPM_STATUS_NULL;
+    if (machine->record)
+        return hvpm_make_access(machine, by, HVPM_READ_MSR, msr, 0, reply, line, line_size);
     return hv_embed_read_msr(machine, by, msr, reply, hvpm_or_none(line, line_size), line_size);
 }
 
@@ -76,38 +273,52 @@ HVPM_INLINE uint32_t hvpm_read_msr_value(hvpm_machine *machine, hvpm_caller by, 
 HVPM_INLINE uint32_t hvpm_write_msr(hvpm_machine *machine, hvpm_caller by, uint32_t msr, uint64_t value,
                                     hvpm_reply *reply, char *line, size_t line_size) {
     if (hvpm_lacks(machine, reply, line, line_size)) return HVPM_STATUS_NULL;
+    if (machine->record)
+        return hvpm_make_access(machine, by, HVPM_WRITE_MSR, msr, value, reply, line, line_size);
     return hv_embed_write_msr(machine, by, msr, value, reply, hvpm_or_none(line, line_size), line_size);
 }
 
 HVPM_INLINE uint32_t hvpm_read_slot(hvpm_machine *machine, hvpm_caller by, uint8_t sint, hvpm_reply *reply,
                                     char *line, size_t line_size) {
     if (hvpm_lacks(machine, reply, line, line_size)) return HVPM_STATUS_NULL;
+    if (machine->record)
+        return hvpm_make_access(machine, by, HVPM_READ_SLOT, sint, 0, reply, line, line_size);
     return hv_embed_read_slot(machine, by, sint, reply, hvpm_or_none(line, line_size), line_size);
 }
 
 HVPM_INLINE uint32_t hvpm_clear_slot(hvpm_machine *machine, hvpm_caller by, uint8_t sint, hvpm_reply *reply,
                                      char *line, size_t line_size) {
     if (hvpm_lacks(machine, reply, line, line_size)) return HVPM_STATUS_NULL;
+    if (machine->record)
+        return hvpm_make_access(machine, by, HVPM_CLEAR_SLOT, sint, 0, reply, line, line_size);
     return hv_embed_clear_slot(machine, by, sint, reply, hvpm_or_none(line, line_size), line_size);
 }
 
 HVPM_INLINE uint32_t hvpm_read_flags(hvpm_machine *machine, hvpm_caller by, uint8_t sint, hvpm_reply *reply,
                                      char *line, size_t line_size) {
     if (hvpm_lacks(machine, reply, line, line_size)) return HVPM_STATUS_NULL;
+    if (machine->record)
+        return hvpm_make_access(machine, by, HVPM_READ_FLAGS, sint, 0, reply, line, line_size);
     return hv_embed_read_flags(machine, by, sint, reply, hvpm_or_none(line, line_size), line_size);
 }
 
 HVPM_INLINE uint32_t hvpm_clear_flag(hvpm_machine *machine, hvpm_caller by, uint8_t sint, uint16_t flag,
                                      hvpm_reply *reply, char *line, size_t line_size) {
     if (hvpm_lacks(machine, reply, line, line_size)) return HVPM_STATUS_NULL;
+    if (machine->record)
+        return hvpm_make_access(machine, by, HVPM_CLEAR_FLAG, sint, flag, reply, line, line_size);
     return hv_embed_clear_flag(machine, by, sint, flag, reply, hvpm_or_none(line, line_size), line_size);
 }
 
 HVPM_INLINE uint32_t hvpm_take_interrupt(hvpm_machine *machine, hvpm_caller by, hvpm_reply *reply, char *line,
                                          size_t line_size) {
     if (hvpm_lacks(machine, reply, line, line_size)) return HVPM_STATUS_NULL;
+    if (machine->record)
+        return hvpm_make_access(machine, by, HVPM_TAKE_INTERRUPT, 0, 0, reply, line, line_size);
     return hv_embed_take_interrupt(machine, by, reply, hvpm_or_none(line, line_size), line_size);
 }
+
+/* ---- Typed hypercalls ---- */
 
 /* Writes the low `size` bytes of a number, little-endian. `size` is at most 8. */
 static inline void hvpm_put(uint8_t *at, uint64_t number, size_t size) {
@@ -334,7 +545,7 @@ HVPM_INLINE uint32_t hvpm_connect_port(hvpm_machine *machine, hvpm_caller by,
     return hvpm_call(machine, by, 0x96, input, sizeof input, reply, line, line_size);
 }
 
-/* Casts `const` away for the library. A look changes nothing. */
+/* Casts `const` away for the library, which writes nothing in a look. */
 static inline hvpm_machine *hvpm_seen(const hvpm_machine *machine) {
     return (hvpm_machine *)(uintptr_t)machine;
 }
@@ -495,6 +706,30 @@ HVPM_INLINE uint32_t hvpm_page_owner(const hvpm_machine *machine, uint64_t page,
                             : (uint32_t)HVPM_STATUS_NULL;
 }
 
+HVPM_INLINE uint32_t hvpm_vp_after(const hvpm_machine *machine, uint64_t partition, uint32_t previous,
+                                   uint32_t *vp) {
+    return machine && vp ? hv_embed_vp_after(hvpm_seen(machine), partition, previous, vp)
+                         : (uint32_t)HVPM_STATUS_NULL;
+}
+
+HVPM_INLINE uint32_t hvpm_port_after(const hvpm_machine *machine, uint64_t partition, uint32_t previous,
+                                     uint32_t *id) {
+    return machine && id ? hv_embed_port_after(hvpm_seen(machine), partition, previous, id)
+                         : (uint32_t)HVPM_STATUS_NULL;
+}
+
+HVPM_INLINE uint32_t hvpm_connection_after(const hvpm_machine *machine, uint64_t partition, uint32_t previous,
+                                           uint32_t *id) {
+    return machine && id ? hv_embed_connection_after(hvpm_seen(machine), partition, previous, id)
+                         : (uint32_t)HVPM_STATUS_NULL;
+}
+
+HVPM_INLINE uint32_t hvpm_page_after(const hvpm_machine *machine, uint64_t partition, uint64_t previous,
+                                     hvpm_page_run *run) {
+    return machine && run ? hv_embed_page_after(hvpm_seen(machine), partition, previous, run)
+                          : (uint32_t)HVPM_STATUS_NULL;
+}
+
 HVPM_INLINE uint32_t hvpm_features(const hvpm_machine *machine, uint64_t partition, uint32_t eax_to_edx[4]) {
     return machine && eax_to_edx ? hv_embed_features(hvpm_seen(machine), partition, eax_to_edx)
                                  : (uint32_t)HVPM_STATUS_NULL;
@@ -503,6 +738,23 @@ HVPM_INLINE uint32_t hvpm_features(const hvpm_machine *machine, uint64_t partiti
 HVPM_INLINE uint32_t hvpm_table(const hvpm_machine *machine, char *text, size_t text_size, size_t *len) {
     if (!machine || !len || (!text && text_size != 0)) return HVPM_STATUS_NULL;
     return hv_embed_table(hvpm_seen(machine), hvpm_or_none(text, text_size), text_size, len);
+}
+
+HVPM_INLINE uint32_t hvpm_explain(const hvpm_machine *machine, hvpm_caller by, const hvpm_registers *registers,
+                                  const void *input, size_t input_len, const hvpm_reply *reply, char *text,
+                                  size_t text_size, size_t *len) {
+    if (!machine || !registers || !reply || !len || (!input && input_len != 0) || (!text && text_size != 0))
+        return HVPM_STATUS_NULL;
+    return hv_embed_explain(hvpm_seen(machine), by, registers, hvpm_or_none(input, input_len), input_len, reply,
+                            hvpm_or_none(text, text_size), text_size, len);
+}
+
+HVPM_INLINE uint32_t hvpm_explain_access(const hvpm_machine *machine, hvpm_caller by, uint32_t access,
+                                         uint32_t number, uint64_t value, const hvpm_reply *reply, char *text,
+                                         size_t text_size, size_t *len) {
+    if (!machine || !reply || !len || (!text && text_size != 0)) return HVPM_STATUS_NULL;
+    return hv_embed_explain_access(hvpm_seen(machine), by, access, number, value, reply,
+                                   hvpm_or_none(text, text_size), text_size, len);
 }
 
 HVPM_INLINE bool hvpm_is_msr(uint32_t msr) {
@@ -525,6 +777,10 @@ HVPM_INLINE uint32_t hvpm_access_line(hvpm_caller by, uint32_t access, uint32_t 
                                       char *text, size_t text_size, size_t *len) {
     if (!len || (!text && text_size != 0)) return HVPM_STATUS_NULL;
     return hv_embed_access_line(by, access, number, value, hvpm_or_none(text, text_size), text_size, len);
+}
+
+HVPM_INLINE uint32_t hvpm_version_number(void) {
+    return HVPM_VERSION;
 }
 
 HVPM_INLINE const char *hvpm_version(void) {

@@ -16,8 +16,9 @@
  * All of one exit is one critical section: hold the lock of the handle until the last vector is injected.
  * docs/EMBEDDING.md has a complete VMM.
  *
- * Each function returns HVPM_STATUS_OK. If a call of the library fails, the function stops there and returns
- * that status.
+ * The functions make events in the guest's place: in the audit and in a record of the machine these are the
+ * guest's own. Each function returns HVPM_STATUS_OK. If a call of the library fails, the function stops there
+ * and returns that status.
  */
 #ifndef HVPM_PAGES_H
 #define HVPM_PAGES_H
@@ -36,8 +37,8 @@ typedef struct hvpm_slot {
 HVPM_HOLDS(sizeof(hvpm_slot) == 256 && offsetof(hvpm_slot, flags) == 5 && offsetof(hvpm_slot, payload) == 16);
 
 /*
- * The pages of a processor. Initialize it with zeros, then set `of`. To record the events that these
- * functions make, also set `record` and `context`. Later you may set `freed` to false; write no other field.
+ * The pages of a processor. Initialize it with zeros, then set `of`. Later you may set `freed` to false. Write
+ * no other field.
  */
 typedef struct hvpm_pages {
     hvpm_caller of;        /* the processor */
@@ -47,42 +48,20 @@ typedef struct hvpm_pages {
     bool freed;            /* a message left its slot, so a post that P23 refused may be repeated */
     uint64_t raised[4];    /* vectors raised and not taken yet; vector v is bit v % 64 of raised[v / 64] */
     uint8_t untaken[4096]; /* the previous event flags page, with the flags that the guest didn't take */
-    /* Called for each event that these functions make in the guest's place; may be NULL. `number` is the MSR
-     * or the SINT, `value` the event flag or 0, and `line` the audit line, of reply->line_len bytes. */
-    void (*record)(void *context, hvpm_caller by, enum hvpm_access event, uint32_t number, uint64_t value,
-                   const hvpm_reply *reply, const char *line);
-    void *context;
 } hvpm_pages;
-
-/* Helper: makes an event in the guest's place. In the audit it is the guest's own. */
-HVPM_INLINE uint32_t hvpm_pages_make(hvpm_machine *machine, hvpm_pages *pages, enum hvpm_access event,
-                                     uint32_t number, uint64_t value, hvpm_reply *reply) {
-    char line[HVPM_LINE];
-    const size_t size = pages->record ? sizeof line : 0;
-    const uint8_t sint = (uint8_t)number;
-    const uint32_t status =
-        event == HVPM_WRITE_MSR    ? hvpm_write_msr(machine, pages->of, number, value, reply, line, size)
-        : event == HVPM_CLEAR_SLOT ? hvpm_clear_slot(machine, pages->of, sint, reply, line, size)
-        : event == HVPM_CLEAR_FLAG ? hvpm_clear_flag(machine, pages->of, sint, (uint16_t)value, reply, line,
-                                                     size)
-                                   : hvpm_take_interrupt(machine, pages->of, reply, line, size);
-    if (status == HVPM_STATUS_OK && pages->record)
-        pages->record(pages->context, pages->of, event, number, value, reply, line);
-    return status;
-}
 
 /*
  * Clears in the library the slots that the guest freed in the page. Until then, the library still shows their
  * messages: a post would wait behind them, EOM would show no other, and P23 would count them. Calls the
  * library only if the guest freed a slot.
  */
-HVPM_INLINE uint32_t hvpm_pages_before(hvpm_machine *machine, hvpm_pages *pages) {
+HVPM_RESULT uint32_t hvpm_pages_before(hvpm_machine *machine, hvpm_pages *pages) {
     hvpm_reply reply;
     for (uint32_t sint = 0; pages->messages && pages->shown >> sint != 0; sint++) {
         if (!(pages->shown >> sint & 1) ||
             __atomic_load_n(&pages->messages[sint].type, __ATOMIC_SEQ_CST) != 0)
             continue;
-        const uint32_t status = hvpm_pages_make(machine, pages, HVPM_CLEAR_SLOT, sint, 0, &reply);
+        const uint32_t status = hvpm_clear_slot(machine, pages->of, (uint8_t)sint, &reply, NULL, 0);
         if (status != HVPM_STATUS_OK) return status;
         pages->shown &= (uint16_t)~(1u << sint);
         pages->freed = true;
@@ -94,7 +73,7 @@ HVPM_INLINE uint32_t hvpm_pages_before(hvpm_machine *machine, hvpm_pages *pages)
  * Helper: copies slots from the library to the page; bit s of `sints` is SINT s. The guest has freed them:
  * otherwise the library would still show the previous message.
  */
-HVPM_INLINE uint32_t hvpm_pages_show(hvpm_machine *machine, hvpm_pages *pages, uint32_t sints) {
+static inline uint32_t hvpm_pages_show(hvpm_machine *machine, hvpm_pages *pages, uint32_t sints) {
     for (uint32_t sint = 0; pages->messages && sint < 16; sint++) {
         uint8_t bytes[256];
         uint32_t type;
@@ -122,15 +101,20 @@ HVPM_INLINE uint32_t hvpm_pages_show(hvpm_machine *machine, hvpm_pages *pages, u
  * an exit. The library must not keep it: signaling a flag that is set raises no vector, and the guest would
  * wait forever.
  */
-HVPM_INLINE uint32_t hvpm_pages_flag(hvpm_machine *machine, hvpm_pages *pages, uint32_t sint,
+static inline uint32_t hvpm_pages_flag(hvpm_machine *machine, hvpm_pages *pages, uint32_t sint,
                                      uint32_t flag) {
     hvpm_reply reply;
     __atomic_fetch_or(&pages->flags[256 * sint + flag / 8], (uint8_t)(1u << flag % 8), __ATOMIC_SEQ_CST);
-    return hvpm_pages_make(machine, pages, HVPM_CLEAR_FLAG, sint, flag, &reply);
+    return hvpm_clear_flag(machine, pages->of, (uint8_t)sint, (uint16_t)flag, &reply, NULL, 0);
 }
 
-/* Updates the pages after an event. Does nothing if the effect doesn't name their processor. */
-HVPM_INLINE uint32_t hvpm_pages_after(hvpm_machine *machine, hvpm_pages *pages, const hvpm_effect *effect) {
+/*
+ * Helper: updates the pages after an event. `*needs_eom` is whether a message waits behind a slot that the guest
+ * freed meanwhile: it may have looked for MessagePending too early, and then it writes no EOM.
+ */
+static inline uint32_t hvpm_pages_update(hvpm_machine *machine, hvpm_pages *pages, const hvpm_effect *effect,
+                                         bool *needs_eom) {
+    *needs_eom = false;
     const bool is_all = effect->kind == HVPM_EFFECT_PARTITION,
                is_new = is_all || effect->kind == HVPM_EFFECT_PROCESSOR;
     if (!is_new && effect->kind != HVPM_EFFECT_SYNIC) return HVPM_STATUS_OK;
@@ -154,13 +138,20 @@ HVPM_INLINE uint32_t hvpm_pages_after(hvpm_machine *machine, hvpm_pages *pages, 
     for (uint32_t sint = 0; sint < 16; sint++)
         if (waiting >> sint & 1)
             __atomic_fetch_or(&pages->messages[sint].flags, (uint8_t)1, __ATOMIC_SEQ_CST);
-    /* A guest that freed the slot meanwhile may have looked too early, and then it writes no EOM: write it
-     * here. */
     status = hvpm_pages_before(machine, pages);
-    if (status != HVPM_STATUS_OK || (waiting & ~(uint32_t)pages->shown) == 0) return status;
-    hvpm_reply reply;
-    status = hvpm_pages_make(machine, pages, HVPM_WRITE_MSR, 0x40000084, 0, &reply);
-    return status == HVPM_STATUS_OK ? hvpm_pages_after(machine, pages, &reply.effect) : status;
+    *needs_eom = (waiting & ~(uint32_t)pages->shown) != 0;
+    return status;
+}
+
+/* Updates the pages after an event. Does nothing if the effect doesn't name their processor. */
+HVPM_RESULT uint32_t hvpm_pages_after(hvpm_machine *machine, hvpm_pages *pages, const hvpm_effect *effect) {
+    hvpm_reply eom;
+    for (bool needs_eom;; effect = &eom.effect) {
+        uint32_t status = hvpm_pages_update(machine, pages, effect, &needs_eom);
+        if (status != HVPM_STATUS_OK || !needs_eom) return status;
+        status = hvpm_write_msr(machine, pages->of, HVPM_MSR_EOM, 0, &eom, NULL, 0);
+        if (status != HVPM_STATUS_OK) return status;
+    }
 }
 
 /*
@@ -171,7 +162,7 @@ HVPM_INLINE uint32_t hvpm_pages_after(hvpm_machine *machine, hvpm_pages *pages, 
  * the guest hasn't taken. All other bytes become zero. Without an event flags page, flags wait for the next
  * one. If the function fails, the old and the new pages stay in use.
  */
-HVPM_INLINE uint32_t hvpm_pages_move(hvpm_machine *machine, hvpm_pages *pages, void *messages,
+HVPM_RESULT uint32_t hvpm_pages_move(hvpm_machine *machine, hvpm_pages *pages, void *messages,
                                      void *flags) {
     uint8_t bytes[256], *const from = pages->flags, *const to = (uint8_t *)flags;
     /* Otherwise a message that the guest freed would appear again. */
@@ -202,12 +193,12 @@ HVPM_INLINE uint32_t hvpm_pages_move(hvpm_machine *machine, hvpm_pages *pages, v
  * once: a processor that waits in HLT has no exit at which to ask. Calls the library only if a vector was
  * raised.
  */
-HVPM_INLINE uint32_t hvpm_pages_vector(hvpm_machine *machine, hvpm_pages *pages, uint8_t *vector) {
+HVPM_RESULT uint32_t hvpm_pages_vector(hvpm_machine *machine, hvpm_pages *pages, uint8_t *vector) {
     hvpm_reply reply;
     *vector = 0;
     if ((pages->raised[0] | pages->raised[1] | pages->raised[2] | pages->raised[3]) == 0)
         return HVPM_STATUS_OK;
-    const uint32_t status = hvpm_pages_make(machine, pages, HVPM_TAKE_INTERRUPT, 0, 0, &reply);
+    const uint32_t status = hvpm_take_interrupt(machine, pages->of, &reply, NULL, 0);
     if (status != HVPM_STATUS_OK) return status;
     *vector = reply.kind == HVPM_REPLY_SERVED ? reply.output[0] : 0;
     if (*vector == 0) __builtin_memset(pages->raised, 0, sizeof pages->raised);

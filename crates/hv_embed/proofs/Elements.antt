@@ -64,13 +64,13 @@ pub at_first : (f : Flat) (by : Caller) (frame : Frame Global) (m : State) (answ
 at_first f by frame m answer out reply state put = record { state = state; frame = refl; reply = reply; bytes = put ∙ ap (λ (r : Reply). [] ++ output_in r) reply }
 
 -- what C is answered once no more are taken
-pub has_run : (by : Caller) (start : Ran) (before n : ℕ) (m : State) (last : Frame Global) (told : Reply) (answer : HvReply) (outputs : List ℕ) (at : ℕ) → IsAtMore n by start m last told
+pub has_run : (by : Caller) (start : Ran) (most before n : ℕ) (m : State) (last : Frame Global) (told : Reply) (answer : HvReply) (outputs : List ℕ) (at : ℕ) → IsAtMore n by start m last told
     (take at outputs) → at ≤ length outputs
     → IsAnswer answer (Hypercall last) told
-    → (IsMore told → is_quiet_kind answer.effect.kind ≡ true → at + ELEMENT_OUTPUT ≤ length outputs → is_used_up m.served (before + (n + 1)) ≡ false → n < REPS_END
+    → (IsMore told → is_quiet_kind answer.effect.kind ≡ true → at + ELEMENT_OUTPUT ≤ length outputs → is_used_up m.served (before + (n + 1)) ≡ false → n < REPS_END → n + 1 < most
     → MayLackMemory m by (restart last (next_in told)))
-    → HasRun by start before m answer outputs (record { events = n + 1; output_len = at })
-has_run by start before n m last told answer outputs at is within says stopped =
+    → HasRun by start most before m answer outputs (record { events = n + 1; output_len = at })
+has_run by start most before n m last told answer outputs at is within says stopped =
     let now = is.stands in
     record {
       more = n;
@@ -82,10 +82,10 @@ has_run by start before n m last told answer outputs at is within says stopped =
           (subst (λ (f : Frame Global). IsAnswer answer (Hypercall f) told) now.frame says);
       len = omega (arith, length-take at outputs, ap length now.bytes);
       bytes = now.bytes;
-      stopped = λ more quiet left free few.
+      stopped = λ more quiet left free few bounded.
           subst (MayLackMemory m by) (ap (λ (f : Frame Global). restart f (next_in told)) now.frame ∙ ap
           (λ (r : Reply). restart (run n by start).frame (next_in r)) now.reply)
-          (stopped (subst IsMore (sym now.reply) more) quiet (omega arith) free few);
+          (stopped (subst IsMore (sym now.reply) more) quiet (omega arith) free few bounded);
     }
 
 -- the output of an element has at most 16 bytes

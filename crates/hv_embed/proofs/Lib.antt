@@ -1,3 +1,5 @@
 mod Crosses
 mod Elements
+mod Following
+mod Listed
 mod Walk

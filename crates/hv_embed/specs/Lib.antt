@@ -1,8 +1,11 @@
 pub mod Answer
 pub mod Effect
+pub mod Explained
+pub mod Held
 pub mod Holds
 pub mod Lent
 pub mod Looks
+pub mod Next
 pub mod Run
 pub mod Taken
 pub mod Texts

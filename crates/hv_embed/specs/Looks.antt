@@ -33,6 +33,18 @@ pub record IsLook {X : Type 0} (m : HvMachine) (shown : Flat → Option X) (stat
     pub shows : m.live ≡ true → (f : Flat) → IsFlat m.raw_machine.machine f → Shows (shown f) status new
     pub unwritten : status ≢ DONE → new ≡ old
 
+-- as `IsLook`, where what is shown, or that nothing is, fits each flat state that the machine stands for
+pub record IsFit {X : Type 0} (fits : Option X → Type 0) (status : ℕ) (place : X) : Type 0 where
+  pub seen : Option X
+  pub shows : Shows seen status place
+  pub fit : fits seen
+
+pub record IsLookFor {X : Type 0} (m : HvMachine) (fits : Flat → Option X → Type 0) (status : ℕ)
+    (old new : X) : Type 0 where
+  pub empty : m.live ≡ false → status ≡ EMPTY
+  pub shows : m.live ≡ true → (f : Flat) → IsFlat m.raw_machine.machine f → IsFit (fits f) status new
+  pub unwritten : status ≢ DONE → new ≡ old
+
 -- C's numbers for life states, port types and aims
 abbrev pub life_number : Life → ℕ
 life_number Created = LIFE_CREATED

@@ -1,6 +1,6 @@
 -- A run: the elements of one call, one after another.
-use Rattle.std.specs.Prelude.{ℕ, zero, suc, ◌≡◌, ◌+◌, ◌-◌, ◌<◌, ◌≤◌, List, [], ◌++◌, true, false, not}
-use Rattle.std.specs.Prelude.{nat_lt, length, take, if◌then◌else◌}
+use Rattle.std.specs.Prelude.{ℕ, zero, suc, ◌≡◌, ◌+◌, ◌-◌, ◌<◌, ◌≤◌, ◌==◌, ◌||◌, List, [], ◌++◌, true, false}
+use Rattle.std.specs.Prelude.{not, nat_lt, length, take, if◌then◌else◌}
 use Rattle.std.specs.Global.{Global}
 use Rattle.hv_abi.specs.declared.frame.Frame.{Frame}
 use Rattle.hv_defs.specs.declared.sizes.TheConstants.{REPS_END}
@@ -82,20 +82,21 @@ pub record IsAtMore (n : ℕ) (by : Caller) (ran : Ran) (m : State) (last : Fram
   pub stands : IsAt (run n by ran) m last told out
 
 -- The run ends here: the call does not continue, or the last effect names more than a page, or too few bytes
--- are left for another output, or no more events are counted, or as many elements were taken as a call can
--- have. Otherwise the host was out of memory for the next element, which no rule refuses.
-abbrev pub HasStopped : Caller → Ran → State → HvEffect → (left more events : ℕ) → Type 0
-HasStopped by ran m told left more events =
+-- are left for another output, or no more events are counted, or as many elements were taken as the caller
+-- allows or as a call can have. Otherwise the host was out of memory for the next element, which no rule
+-- refuses.
+abbrev pub HasStopped : Caller → Ran → State → HvEffect → (left more most events : ℕ) → Type 0
+HasStopped by ran m told left more most events =
     IsMore ran.reply → is_quiet_kind told.kind ≡ true → ELEMENT_OUTPUT ≤ left → is_used_up m.served events ≡
-    false → more < REPS_END
+    false → more < REPS_END → more + 1 < most
     → MayLackMemory m by (restart ran.frame (next_in ran.reply))
 
--- The machine took the first element of a call, and as many further ones as it could. `before` is the number
--- of events before the first. Each reply but the last says that the call continues. The reply for C is that
--- of the last element, the machine stands for the state that this element left, and the buffer begins with
--- the output of all elements.
-pub record HasRun (by : Caller) (start : Ran) (before : ℕ) (m : State) (told : HvReply) (buffer : List ℕ)
-    (done : HvRun) : Type 0 where
+-- The machine took the first element of a call, and as many further ones as it could, at most `most` in all.
+-- `before` is the number of events before the first. Each reply but the last says that the call continues.
+-- The reply for C is that of the last element, the machine stands for the state that this element left, and
+-- the buffer begins with the output of all elements.
+pub record HasRun (by : Caller) (start : Ran) (most before : ℕ) (m : State) (told : HvReply)
+    (buffer : List ℕ) (done : HvRun) : Type 0 where
   pub more : ℕ
   pub events : done.events ≡ more + 1
   pub goes : GoesOn more by start
@@ -104,7 +105,7 @@ pub record HasRun (by : Caller) (start : Ran) (before : ℕ) (m : State) (told :
   pub len : done.output_len ≡ length (run more by start).bytes
   pub bytes : take done.output_len buffer ≡ (run more by start).bytes
   pub stopped : HasStopped by (run more by start) m told.effect (length buffer - done.output_len) more
-      (before + done.events)
+      most (before + done.events)
 
 -- the state before the last of n more elements, if the first element was taken in `f`
 abbrev pub flat_before : ℕ → Flat → Caller → Ran → Flat
@@ -125,10 +126,10 @@ pub record IsRunEffect (events : ℕ) (f : Flat) (by : Caller) (start : Ran) (to
 
 -- The machine of a handle took elements of a call, for each flat state that it stood for. The new machine
 -- satisfies the invariant, is sound, and has the old number of pages. The count of events grows by the number
--- of elements taken. No line is written.
-pub record IsRunTaken (by : Caller) (frame : Frame Global) (old new : HvMachine) (answer : HvReply)
+-- of elements taken, which is at least 1 and at most `most`. No line is written.
+pub record IsRunTaken (by : Caller) (frame : Frame Global) (most : ℕ) (old new : HvMachine) (answer : HvReply)
     (buffer : List ℕ) (done : HvRun) : Type 0 where
-  pub ran : (f : Flat) → IsFlat old.raw_machine.machine f → HasRun by (first f by frame) old.events
+  pub ran : (f : Flat) → IsFlat old.raw_machine.machine f → HasRun by (first f by frame) most old.events
       new.raw_machine.machine answer buffer done
   pub effect : (f : Flat) → IsFlat old.raw_machine.machine f
       → IsRunEffect done.events f by (first f by frame) answer.effect
@@ -137,14 +138,15 @@ pub record IsRunTaken (by : Caller) (frame : Frame Global) (old new : HvMachine)
   pub lasting : MachineInvariant new.raw_machine.machine
   pub sound : IsSound new.raw_machine.machine
   pub some : 0 < done.events
+  pub bounded : done.events ≤ most
   pub events : new.events ≡ old.events + done.events
   pub live : new.live ≡ true
 
--- the status of a run with an output buffer of this length: `DONE` if the handle can take it, or else the
--- reason
-abbrev pub run_readiness : HvMachine → ℕ → ℕ
-run_readiness m len =
+-- the status of a run with an output buffer of this length, of at most `most` elements: `DONE` if the handle
+-- can take it, or else the reason
+abbrev pub run_readiness : HvMachine → (len most : ℕ) → ℕ
+run_readiness m len most =
     if not m.live then EMPTY
-    else if nat_lt len ELEMENT_OUTPUT then SHORT
+    else if nat_lt len ELEMENT_OUTPUT || (most == 0) then SHORT
     else if is_used_up m.raw_machine.machine.served m.events then USED_UP
     else DONE

@@ -92,7 +92,7 @@ pub extern "C" fn hv_embed_hypercall(
 }
 
 /// Takes a hypercall as [`hv_embed_hypercall`] does, and the further elements of a rep call one after
-/// another.
+/// another, at most `most` in all. At least one element is taken, so `most` isn't 0.
 ///
 /// It stops after the last element, or after one that isn't served or whose effect names more than a page. It
 /// also stops when fewer than 16 bytes are left of the buffer for outputs, when the handle or the machine
@@ -106,29 +106,30 @@ pub extern "C" fn hv_embed_run(
     by: HvCaller,
     registers: &HvRegisters,
     input: &[u8],
+    most: u32,
     reply: &mut HvReply,
     outputs: &mut [u8],
     done: &mut HvRun,
 ) -> u32
     ensures taken { result ≡ DONE
-        → IsRunTaken (caller_of by) (frame_of registers.now input.now) machine.old machine.new reply.new
-        outputs.new done.new }
+        → IsRunTaken (caller_of by) (frame_of registers.now input.now) most machine.old machine.new
+        reply.new outputs.new done.new }
     ensures kept { result ≢ DONE → IsAsBefore machine.old machine.new }
     ensures unwritten { result ≢ DONE → (reply.new ≡ reply.old) × (outputs.new ≡ outputs.old)
         × (done.new ≡ done.old) }
-    ensures status { result ≢ MEMORY → result ≡ run_readiness machine.old (length outputs.old) }
-    ensures free { result ≡ MEMORY → run_readiness machine.old (length outputs.old) ≡ DONE }
+    ensures status { result ≢ MEMORY → result ≡ run_readiness machine.old (length outputs.old) most }
+    ensures free { result ≡ MEMORY → run_readiness machine.old (length outputs.old) most ≡ DONE }
     ensures memory { result ≡ MEMORY → (frame_of registers.now input.now).input ≡ []
         → MayLackMemory machine.old.raw_machine.machine (caller_of by) (frame_of registers.now input.now) }
 {
     let state = state_of!(machine);
-    if outputs.len() < ELEMENT_OUTPUT {
+    if outputs.len() < ELEMENT_OUTPUT || most == 0 {
         return SHORT;
     }
     let by = caller_of(by);
     let events = &mut machine.events;
     let status = step_run(
-        alloc, state, events, by, registers, input, reply, outputs, done,
+        alloc, state, events, by, registers, input, most, reply, outputs, done,
     );
     state.trim(alloc);
     status

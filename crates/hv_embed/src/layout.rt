@@ -155,6 +155,23 @@ pub struct HvConnection {
     pub port_type: u32,
 }
 
+/// Pages of a partition whose numbers follow each other. All are in its pool, or all are loose.
+#[repr(C)]
+#[derive(Clone, Copy)]
+pub struct HvPageRun {
+    /// The first page.
+    pub page: u64,
+    /// The number of pages.
+    pub count: u32,
+    /// 1 if the pages are in the partition's pool, 0 if they are loose.
+    pub pooled: u8,
+}
+
+/// The number before every page, and every id or index that a partition has.
+///
+/// No page, processor, port or connection has this number.
+pub const FIRST: u32 = 0xFFFF_FFFF;
+
 /// The most bytes that an element of a call outputs.
 pub const ELEMENT_OUTPUT: usize = 16;
 

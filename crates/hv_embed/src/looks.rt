@@ -188,7 +188,7 @@ pub extern "C" fn hv_embed_is_call(code: u16) -> bool
 }
 
 // Stores what a look showed, and returns the status.
-fn put<T: Copy>(shown: Option<T>, place: &mut T) -> u32
+pub(crate) fn put<T: Copy>(shown: Option<T>, place: &mut T) -> u32
     ensures shows { Shows shown result place.new }
     ensures unwritten { result ≢ DONE → place.new ≡ place.old }
 {

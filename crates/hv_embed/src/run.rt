@@ -31,7 +31,7 @@ use std::alloc::Global;
 use std::mem::replace;
 
 // Takes a call with these registers and the bytes of its input list, then its further elements, and counts
-// each of them.
+// each of them: at most `most` in all.
 pub(crate) fn step_run(
     alloc: Global,
     state: &mut MachineState,
@@ -39,13 +39,16 @@ pub(crate) fn step_run(
     by: Caller,
     registers: &HvRegisters,
     input: &[u8],
+    most: u32,
     reply: &mut HvReply,
     outputs: &mut [u8],
     done: &mut HvRun,
 ) -> u32
-    requires { ELEMENT_OUTPUT ≤ length outputs.old }
+    requires room { ELEMENT_OUTPUT ≤ length outputs.old }
+    requires one { 0 < most }
     ensures ran { (f : Flat) → IsFlat state.old f → result ≡ DONE → HasRun by
-        (first f by (frame_by registers.now input.now)) events.old state.new reply.new outputs.new done.new }
+        (first f by (frame_by registers.now input.now)) most events.old state.new reply.new outputs.new
+        done.new }
     ensures effect { (f : Flat) → IsFlat state.old f → result ≡ DONE → IsRunEffect done.new.events f by
         (first f by (frame_by registers.now input.now)) reply.new.effect }
     ensures line { result ≡ DONE → reply.new.line_len ≡ 0 }
@@ -53,6 +56,7 @@ pub(crate) fn step_run(
     ensures lasting { MachineInvariant state.new }
     ensures sound { result ≡ DONE → IsSound state.new }
     ensures some { result ≡ DONE → 0 < done.new.events }
+    ensures most { result ≡ DONE → done.new.events ≤ most }
     ensures count { result ≡ DONE → events.new ≡ events.old + done.new.events }
     ensures kept { result ≢ DONE → (state.new ≡ state.old) × (events.new ≡ events.old) }
     ensures unwritten { result ≢ DONE → (reply.new ≡ reply.old) × (outputs.new ≡ outputs.old)
@@ -81,6 +85,7 @@ pub(crate) fn step_run(
         &mut state.machine,
         events,
         by,
+        most - 1,
         &mut state.frame,
         &mut last,
         &mut state.output,
@@ -96,16 +101,17 @@ pub(crate) fn step_run(
     DONE
 }
 
-// Takes the elements after the last one, one after another, and returns how many it took. It stops after the
-// call's last element, or after one that isn't served or whose effect names more than a page. It also stops
-// when the buffer has no room for an output, or no more events are counted. Each element writes its output in
-// place of the last one's. An element that the host refuses didn't happen, so `output` gets the last one's
-// back from the caller's buffer, which begins with the output of the first element.
+// Takes the elements after the last one, one after another, and returns how many it took: at most `further`.
+// It stops after the call's last element, or after one that isn't served or whose effect names more than a
+// page. It also stops when the buffer has no room for an output, or no more events are counted. Each element
+// writes its output in place of the last one's. An element that the host refuses didn't happen, so `output`
+// gets the last one's back from the caller's buffer, which begins with the output of the first element.
 fn run_on(
     alloc: Global,
     machine: &mut Machine<Global>,
     events: &mut u64,
     by: Caller,
+    further: u32,
     frame: &mut Frame<Global>,
     last: &mut Answer,
     output: &mut Output,
@@ -127,10 +133,11 @@ fn run_on(
         (take at.old outputs.old)
         → IsLastEffect 0 f by ran effect.old → IsLastEffect result f by ran effect.new }
     ensures most { result ≤ REPS_END }
+    ensures bound { result ≤ further }
     ensures count { events.new ≡ events.old + result }
     ensures stopped { IsMore (reply_of last.new output.new) → is_quiet_kind effect.new.kind ≡ true
         → at.new + ELEMENT_OUTPUT ≤ length outputs.new → is_used_up_at machine.new.served events.new ≡ false
-        → result < REPS_END
+        → result < REPS_END → result < further
         → MayLackMemory machine.new by (restarted_at frame.new (next_in (reply_of last.new output.new))) }
     ensures place { at.new ≤ length outputs.old }
     ensures few { at.new ≤ at.old + ELEMENT_OUTPUT * result }
@@ -140,7 +147,8 @@ fn run_on(
     ensures sound { IsSound machine.new }
 {
     let mut from = 0;
-    for more in 0..u32::from(REPS_END) {
+    let end = further.min(u32::from(REPS_END));
+    for more in 0..end {
         let Some(next) = next_of(*last) else {
             return more;
         };
@@ -163,7 +171,7 @@ fn run_on(
         *last = told;
         show(change, effect);
     }
-    u32::from(REPS_END)
+    end
 }
 
 // Points a frame at another element of its call.

@@ -114,7 +114,7 @@ fn call_line(alloc: Global, by: HvCaller, registers: &HvRegisters, input: &[u8])
 
 // Returns the bytes of an input list that a line has.
 #[tactic(auto, using(std::proofs::lemmas::List::take_min))]
-fn readable(input: &[u8]) -> &[u8]
+pub(crate) fn readable(input: &[u8]) -> &[u8]
     ensures { result.now ≡ readable_of input.now }
 {
     &input[..MOST_INPUT.min(input.len())]
@@ -130,7 +130,7 @@ fn event_line(alloc: Global, by: Caller, what: &Action<Global>) -> Option<Vec<u8
 }
 
 // Returns the access that C names by these numbers, if there is one.
-fn access_of(access: u32, number: u32, value: u64) -> Option<Action<Global>>
+pub(crate) fn access_of(access: u32, number: u32, value: u64) -> Option<Action<Global>>
     ensures { result ≡ access_named access number value }
 {
     let sint = u8::try_from(number).ok();
@@ -146,8 +146,7 @@ fn access_of(access: u32, number: u32, value: u64) -> Option<Action<Global>>
     }
 }
 
-// Writes a text into a buffer that has room for it, and reports its length in bytes. Without a text, memory
-// ran out.
+// Writes a text as `put_bytes` does. Without a text, memory ran out.
 fn put_text(bytes: Option<Vec<u8>>, text: &mut [u8], len: &mut usize) -> u32
     ensures put { (told : List ℕ) → IfSome bytes (λ b. b.items ≡ told)
         → IsPut told result text.old text.new len.old len.new }
@@ -155,10 +154,19 @@ fn put_text(bytes: Option<Vec<u8>>, text: &mut [u8], len: &mut usize) -> u32
     ensures untold { result ≢ DONE → result ≢ SHORT → len.new ≡ len.old }
 {
     let Some(bytes) = bytes else { return MEMORY };
+    put_bytes(&bytes, text, len)
+}
+
+// Writes a text into a buffer that has room for it, and reports its length in bytes.
+pub(crate) fn put_bytes(bytes: &[u8], text: &mut [u8], len: &mut usize) -> u32
+    ensures put { IsPut bytes.now result text.old text.new len.old len.new }
+    ensures unwritten { result ≢ DONE → text.new ≡ text.old }
+    ensures untold { result ≢ DONE → result ≢ SHORT → len.new ≡ len.old }
+{
     *len = bytes.len();
     if text.len() < bytes.len() {
         return SHORT;
     }
-    text[..bytes.len()].copy_from_slice(&bytes);
+    text[..bytes.len()].copy_from_slice(bytes);
     DONE
 }

@@ -1,4 +1,4 @@
-use Rattle.std.proofs.Common.{◌≡◌, ◌+◌, ◌-◌, ◌<◌, ◌≤◌, Bool, true, false, ◌||◌, nat_le, lt-ltb, ℕ, List, ◌++◌, length, take, drop, subst, sym, refl, ap, arith, ◌∙◌}
+use Rattle.std.proofs.Common.{◌≡◌, ◌-◌, ◌<◌, ◌≤◌, Bool, true, false, ◌||◌, nat_le, lt-ltb, ℕ, List, ◌++◌, length, take, drop, subst, sym, refl, ap, arith, ◌∙◌}
 use Rattle.std.proofs.Common.{length-append, length-take}
 use Rattle.std.proofs.lemmas.Grind.{common_steps}
 use Rattle.std.proofs.lemmas.List.{drop_at, length-take-le}
@@ -67,13 +67,13 @@ extend_from_slice-requires c =
 pub returns-clause-ran : goal.returns-clause-ran
 returns-clause-ran c = λ ran at.
     let l = c.loop-more in
-    let all : l.more ≡ c.from.result = omega arith in
+    let all : l.more ≡ c.min-end.result = omega arith in
     subst (λ n. IsAtMore n c.args.by ran l.machine l.frame (reply_of l.last l.output) (take l.at l.outputs)) all (l.invariant.ran ran at)
 
 pub returns-clause-effect : goal.returns-clause-effect
 returns-clause-effect c = λ ran f at first.
     let l = c.loop-more in
-    let all : l.more ≡ c.from.result = omega arith in
+    let all : l.more ≡ c.min-end.result = omega arith in
     subst (λ n. IsLastEffect n f c.args.by ran l.effect) all (l.invariant.effect ran f at first)
 
 -- events that aren't used up can be counted once more

@@ -33,12 +33,13 @@ returns-clause-ran c = λ f flat _.
     subst (λ (what : Action Global). IsAnswer c.fill_reply.new.reply what (reply_of on.new.last c.as_slice.result.now)) c.asked_in.ensures (c.fill_reply.ensures.answer on.new.frame.input) in
     let says : IsAnswer c.fill_reply.new.reply (Hypercall on.new.frame) (reply_of on.new.last on.new.output) =
     subst (λ (r : Reply). IsAnswer c.fill_reply.new.reply (Hypercall on.new.frame) r) (ap (λ (bytes : List ℕ). reply_of on.new.last bytes) c.as_slice.ensures.bytes) asked in
-    subst (λ (frame : Frame Global). HasRun c.args.by (first f c.args.by frame) c.args.events.now on.new.machine c.fill_reply.new.reply on.new.outputs
+    subst (λ (frame : Frame Global). HasRun c.args.by (first f c.args.by frame) c.args.most c.args.events.now on.new.machine c.fill_reply.new.reply on.new.outputs
     (record { events = on.result + 1; output_len = on.new.at })) c.in-Ok.ensures.filled
-    (has_run c.args.by (first f c.args.by frame) c.args.events.now on.result on.new.machine on.new.frame (reply_of on.new.last on.new.output) c.fill_reply.new.reply on.new.outputs on.new.at
+    (has_run c.args.by (first f c.args.by frame) c.args.most c.args.events.now on.result on.new.machine on.new.frame (reply_of on.new.last on.new.output) c.fill_reply.new.reply on.new.outputs
+    on.new.at
     (on.ensures.ran (first f c.args.by frame) start) (omega (arith, on.ensures.place)) says
-    (λ more quiet left free. on.ensures.stopped more (subst (λ (e : HvEffect). is_quiet_kind e.kind ≡ true) c.fill_reply.ensures.effect quiet) left
-    (subst (λ n. is_used_up on.new.machine.served n ≡ false) counted free)))
+    (λ more quiet left free few bounded. on.ensures.stopped more (subst (λ (e : HvEffect). is_quiet_kind e.kind ≡ true) c.fill_reply.ensures.effect quiet) left
+    (subst (λ n. is_used_up on.new.machine.served n ≡ false) counted free) few (omega (arith, bounded))))
 
 pub returns-clause-effect : goal.returns-clause-effect
 returns-clause-effect c = λ f flat _.
