@@ -24,10 +24,12 @@ from .machine import (
     Connection,
     Life,
     Machine,
+    PageRun,
     Partition,
     Port,
     PortType,
     Property,
+    Record,
     is_call,
     is_msr,
 )
@@ -39,6 +41,8 @@ from .replies import (
     Error,
     HvStatus,
     Made,
+    Message,
+    Refused,
     Reply,
     Rule,
     Run,
@@ -49,12 +53,14 @@ from .replies import (
     rule_sentence,
     status_name,
     version,
+    version_number,
 )
 
 __all__ = [
     "ANY_VP", "SELF", "Access", "Answer", "Balance", "Call", "Caller", "Connection", "Error", "HvStatus",
-    "HvStatusNumber", "Life", "Machine", "Made", "Msr", "Pages", "Partition", "Port", "PortType", "Privilege",
-    "Property", "Register", "Reply", "Rule", "RuleNumber", "Run", "Status",
+    "HvStatusNumber", "Life", "Machine", "Made", "Message", "Msr", "PageRun", "Pages", "Partition", "Port", "PortType",
+    "Privilege", "Property", "Record", "Refused", "Register", "Reply", "Rule", "RuleNumber", "Run", "Status",
     "access_line", "boot_line", "effect", "hv_status_name", "hypercall_line", "is_call", "is_msr", "next",
     "pages", "rule_name", "rule_sentence", "serve", "status_name", "version",
+    "version_number",
 ]

@@ -85,9 +85,9 @@ def effect_of(raw: Any) -> Effect:
     return Nothing()
 
 
-def reply_of(raw: Any, line: bytes, value: Optional[Callable[[], Any]] = None) -> Reply[Any]:
-    """The reply that the library wrote. `value` reads what it stored, if the event was served."""
-    answer = Answer(raw.kind)
+def reply_of(raw: Any, line: bytes, value: Optional[Callable[[bytes], Any]] = None) -> Reply[Any]:
+    """The reply that the library wrote. If the event was served, `value` is called with the output."""
+    answer, output = Answer(raw.kind), bytes(raw.output[: raw.output_len])
     is_served = answer in (Answer.SERVED, Answer.MORE)
     return Reply(
         answer=answer,
@@ -95,9 +95,9 @@ def reply_of(raw: Any, line: bytes, value: Optional[Callable[[], Any]] = None) -
         status=None if answer == Answer.FAULT else HvStatus(raw.result & 0xFFFF),
         result=raw.result,
         next=raw.next,
-        output=bytes(raw.output[: raw.output_len]),
+        output=output,
         line=line[: raw.line_len].decode("ascii"),
         effect=effect_of(raw.effect),
-        value=value() if value and is_served else None,
+        value=value(output) if value and is_served else None,
         _raw=raw,
     )

@@ -1,5 +1,5 @@
-"""Loads libhvpm.so.1 from the folder that HVPM_LIB names, or else where the loader finds it, and calls it with
-numbers that fit."""
+"""Loads libhvpm.so.0.1 from the folder that HVPM_LIB names, or else from this one, where a wheel has it, or
+else where the loader finds it, and calls it with numbers that fit."""
 from __future__ import annotations
 
 import ctypes
@@ -9,14 +9,16 @@ from typing import Any
 
 from . import _raw
 
-FILE = "libhvpm.so.1"
+FILE = "libhvpm.so.0.1"
 UNSIGNED = (ctypes.c_uint8, ctypes.c_uint16, ctypes.c_uint32, ctypes.c_uint64)
 
 
 def _open() -> ctypes.CDLL:
-    folder = os.environ.get("HVPM_LIB")
+    folder, here = os.environ.get("HVPM_LIB"), os.path.join(os.path.dirname(os.path.abspath(__file__)), FILE)
     if folder is not None:
         return ctypes.CDLL(os.path.join(folder, FILE))
+    if os.path.exists(here):
+        return ctypes.CDLL(here)
     try:
         return ctypes.CDLL(FILE)
     except OSError:
@@ -26,10 +28,19 @@ def _open() -> ctypes.CDLL:
         ) from None
 
 
+def _series(version: int) -> int:
+    """The part of a version without which a program may break."""
+    return version // 100 if version < 10000 else version // 10000 * 100
+
+
 @functools.lru_cache(maxsize=None)
 def _library() -> ctypes.CDLL:
     """The library. The first call loads it, so that `hvpm.serve` works without it."""
-    return _open()
+    library = _open()
+    version, wanted = library.hvpm_version_number(), _raw.HVPM_VERSION
+    if _series(version) != _series(wanted) or version < wanted:
+        raise ImportError(f"{FILE} has version {version}, and the module needs {wanted}")
+    return library
 
 
 @functools.lru_cache(maxsize=None)

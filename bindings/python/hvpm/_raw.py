@@ -1,17 +1,21 @@
 """Made by bindings/generate from include/hvpm.h, hvpm_pages.h, hvpm_guest.h. Don't edit it: the headers say what each item means."""
 # fmt: off
-from ctypes import CFUNCTYPE, POINTER, Structure, c_bool, c_char, c_char_p, c_size_t, c_void_p
-from ctypes import c_uint8, c_uint16, c_uint32, c_uint64
+from ctypes import POINTER, Structure, c_bool, c_char, c_char_p, c_size_t, c_void_p
+from ctypes import c_int64, c_uint8, c_uint16, c_uint32, c_uint64
 
 HVPM_VERSION_MAJOR = 0x0
 HVPM_VERSION_MINOR = 0x1
 HVPM_VERSION_PATCH = 0x0
+HVPM_VERSION = 0x64
 HVPM_ANY_VP = 0xffffffff
 HVPM_LINE = 0x300
 HVPM_OUTPUT = 0x10
 HVPM_SELF = 0xffffffffffffffff
+HVPM_FIRST = 0xffffffff
+HVPM_EXPLANATION = 0x800
 HVPM_EVENT_LINE = 0x60
 HVPM_CALL_LINE = 0x2060
+HVPM_GUEST_SERVED = 0x64
 
 HVPM_EFFECT_NOTHING = 0x0
 HVPM_EFFECT_SYNIC = 0x1
@@ -62,6 +66,7 @@ HVPM_TAKE_INTERRUPT = 0x6
 
 HVPM_MSR_GUEST_OS_ID = 0x40000000
 HVPM_MSR_HYPERCALL = 0x40000001
+HVPM_MSR_REFERENCE_TSC = 0x40000021
 HVPM_MSR_VP_ASSIST_PAGE = 0x40000073
 
 HVPM_GUEST_DONE = 0x0
@@ -71,11 +76,39 @@ HVPM_GUEST_MACHINE = 0x3
 HVPM_GUEST_OTHER = 0x4
 
 
+class hvpm_caller(Structure):
+    _fields_ = [
+        ("partition", c_uint64),
+        ("vp", c_uint32),
+    ]
+
+
+class hvpm_text(Structure):
+    _fields_ = [
+        ("at", c_void_p),
+        ("len", c_size_t),
+        ("size", c_size_t),
+    ]
+
+
+class hvpm_record(Structure):
+    _fields_ = [
+        ("script", hvpm_text),
+        ("audit", hvpm_text),
+        ("is_cut", c_bool),
+        ("vps", c_uint32),
+        ("vp", hvpm_caller * 64),
+        ("rep_by", hvpm_caller),
+        ("rep", c_uint64),
+    ]
+
+
 class hvpm_machine(Structure):
     _fields_ = [
         ("live", c_bool),
         ("events", c_uint64),
         ("at", c_void_p),
+        ("record", POINTER(hvpm_record)),
     ]
 
 
@@ -85,13 +118,6 @@ class hvpm_config(Structure):
         ("pages", c_uint32),
         ("pool", c_uint32),
         ("vps", c_uint32),
-    ]
-
-
-class hvpm_caller(Structure):
-    _fields_ = [
-        ("partition", c_uint64),
-        ("vp", c_uint32),
     ]
 
 
@@ -164,6 +190,14 @@ class hvpm_connection(Structure):
     ]
 
 
+class hvpm_page_run(Structure):
+    _fields_ = [
+        ("page", c_uint64),
+        ("count", c_uint32),
+        ("pooled", c_uint8),
+    ]
+
+
 class hvpm_partition(Structure):
     _fields_ = [
         ("mask", c_uint64),
@@ -206,8 +240,6 @@ class hvpm_pages(Structure):
         ("freed", c_bool),
         ("raised", c_uint64 * 4),
         ("untaken", c_uint8 * 4096),
-        ("record", CFUNCTYPE(None, c_void_p, hvpm_caller, c_uint32, c_uint32, c_uint64, POINTER(hvpm_reply), c_char_p)),
-        ("context", c_void_p),
     ]
 
 
@@ -231,6 +263,7 @@ class hvpm_guest(Structure):
         ("os_id", c_uint64),
         ("hypercall", c_uint64),
         ("assist", c_uint64 * 64),
+        ("tsc_page", c_uint64),
     ]
 
 
@@ -240,6 +273,7 @@ FUNCTIONS = {
     "hvpm_destroy": (None, [POINTER(hvpm_machine)]),
     "hvpm_hypercall": (c_uint32, [POINTER(hvpm_machine), hvpm_caller, POINTER(hvpm_registers), c_void_p, c_size_t, POINTER(hvpm_reply), c_void_p, c_size_t]),
     "hvpm_run": (c_uint32, [POINTER(hvpm_machine), hvpm_caller, POINTER(hvpm_registers), c_void_p, c_size_t, POINTER(hvpm_reply), c_void_p, c_size_t, POINTER(hvpm_run_done)]),
+    "hvpm_run_at_most": (c_uint32, [POINTER(hvpm_machine), hvpm_caller, POINTER(hvpm_registers), c_void_p, c_size_t, c_uint32, POINTER(hvpm_reply), c_void_p, c_size_t, POINTER(hvpm_run_done)]),
     "hvpm_next": (c_uint64, [c_uint64, POINTER(hvpm_reply)]),
     "hvpm_read_msr": (c_uint32, [POINTER(hvpm_machine), hvpm_caller, c_uint32, POINTER(hvpm_reply), c_void_p, c_size_t]),
     "hvpm_read_msr_value": (c_uint32, [POINTER(hvpm_machine), hvpm_caller, c_uint32, POINTER(c_uint64), POINTER(hvpm_reply), c_void_p, c_size_t]),
@@ -283,25 +317,29 @@ FUNCTIONS = {
     "hvpm_peek_connection": (c_uint32, [POINTER(hvpm_machine), c_uint64, c_uint32, POINTER(hvpm_connection)]),
     "hvpm_child_after": (c_uint32, [POINTER(hvpm_machine), c_uint64, c_uint64, POINTER(c_uint64)]),
     "hvpm_page_owner": (c_uint32, [POINTER(hvpm_machine), c_uint64, POINTER(c_uint64)]),
+    "hvpm_vp_after": (c_uint32, [POINTER(hvpm_machine), c_uint64, c_uint32, POINTER(c_uint32)]),
+    "hvpm_port_after": (c_uint32, [POINTER(hvpm_machine), c_uint64, c_uint32, POINTER(c_uint32)]),
+    "hvpm_connection_after": (c_uint32, [POINTER(hvpm_machine), c_uint64, c_uint32, POINTER(c_uint32)]),
+    "hvpm_page_after": (c_uint32, [POINTER(hvpm_machine), c_uint64, c_uint64, POINTER(hvpm_page_run)]),
     "hvpm_features": (c_uint32, [POINTER(hvpm_machine), c_uint64, POINTER(c_uint32)]),
     "hvpm_table": (c_uint32, [POINTER(hvpm_machine), c_void_p, c_size_t, POINTER(c_size_t)]),
+    "hvpm_explain": (c_uint32, [POINTER(hvpm_machine), hvpm_caller, POINTER(hvpm_registers), c_void_p, c_size_t, POINTER(hvpm_reply), c_void_p, c_size_t, POINTER(c_size_t)]),
+    "hvpm_explain_access": (c_uint32, [POINTER(hvpm_machine), hvpm_caller, c_uint32, c_uint32, c_uint64, POINTER(hvpm_reply), c_void_p, c_size_t, POINTER(c_size_t)]),
     "hvpm_is_msr": (c_bool, [c_uint32]),
     "hvpm_is_call": (c_bool, [c_uint16]),
+    "hvpm_record_free": (None, [POINTER(hvpm_record)]),
     "hvpm_hypercall_line": (c_uint32, [hvpm_caller, POINTER(hvpm_registers), c_void_p, c_size_t, c_void_p, c_size_t, POINTER(c_size_t)]),
     "hvpm_access_line": (c_uint32, [hvpm_caller, c_uint32, c_uint32, c_uint64, c_void_p, c_size_t, POINTER(c_size_t)]),
+    "hvpm_version_number": (c_uint32, []),
     "hvpm_version": (c_char_p, []),
     "hvpm_status_name": (c_char_p, [c_uint32]),
     "hvpm_hv_status_name": (c_char_p, [c_uint32]),
     "hvpm_rule_name": (c_char_p, [c_uint32]),
     "hvpm_rule_sentence": (c_char_p, [c_uint32]),
-    "hvpm_pages_make": (c_uint32, [POINTER(hvpm_machine), POINTER(hvpm_pages), c_uint32, c_uint32, c_uint64, POINTER(hvpm_reply)]),
     "hvpm_pages_before": (c_uint32, [POINTER(hvpm_machine), POINTER(hvpm_pages)]),
-    "hvpm_pages_show": (c_uint32, [POINTER(hvpm_machine), POINTER(hvpm_pages), c_uint32]),
-    "hvpm_pages_flag": (c_uint32, [POINTER(hvpm_machine), POINTER(hvpm_pages), c_uint32, c_uint32]),
     "hvpm_pages_after": (c_uint32, [POINTER(hvpm_machine), POINTER(hvpm_pages), POINTER(hvpm_effect)]),
     "hvpm_pages_move": (c_uint32, [POINTER(hvpm_machine), POINTER(hvpm_pages), c_void_p, c_void_p]),
     "hvpm_pages_vector": (c_uint32, [POINTER(hvpm_machine), POINTER(hvpm_pages), POINTER(c_uint8)]),
-    "hvpm_guest_pair": (c_uint64, [c_uint64, c_uint64]),
     "hvpm_guest_call": (c_bool, [POINTER(hvpm_guest_cpu), POINTER(hvpm_registers)]),
     "hvpm_guest_return": (None, [POINTER(hvpm_guest_cpu), c_uint64]),
     "hvpm_guest_again": (None, [POINTER(hvpm_guest_cpu), POINTER(hvpm_registers)]),
@@ -311,7 +349,9 @@ FUNCTIONS = {
     "hvpm_guest_privilege": (c_uint64, [c_uint32]),
     "hvpm_guest_may": (c_bool, [c_uint64, c_uint32]),
     "hvpm_guest_read_msr": (c_uint32, [POINTER(hvpm_guest), c_uint32, c_uint64, c_uint32, POINTER(c_uint64)]),
-    "hvpm_guest_move_code": (c_uint32, [POINTER(hvpm_guest), c_uint64, c_bool]),
     "hvpm_guest_write_msr": (c_uint32, [POINTER(hvpm_guest), c_uint32, c_uint64, c_uint32, c_uint64, c_bool]),
-    "hvpm_guest_cpuid": (c_bool, [c_uint32, c_uint64, POINTER(c_uint32)]),
+    "hvpm_guest_cpuid": (c_bool, [c_uint32, c_uint64, c_uint32, POINTER(c_uint32)]),
+    "hvpm_guest_tsc_scale": (c_uint64, [c_uint64]),
+    "hvpm_guest_reference_time": (c_uint64, [c_uint64, c_uint64, c_int64]),
+    "hvpm_guest_tsc_page": (None, [c_uint32, c_uint64, c_int64, POINTER(c_uint8)]),
 }

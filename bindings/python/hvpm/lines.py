@@ -28,9 +28,9 @@ def boot_line(mask: int, pages: int, pool: int, vps: int, limit: int) -> str:
 
 
 def hypercall_line(by: Tuple[int, int], rcx: int, rdx: int = 0, r8: int = 0, input: Data = b"") -> str:
-    """Returns the line of a hypercall, with its line feed. The line has the first 4,096 bytes of the input:
-    no input list is longer. A rep call is one line, which executes all of its elements: record only the
-    first."""
+    """Returns the line of a hypercall, with its line feed. The line has the bytes of the call's input list, the
+    first 4,096 of them: no list that rule P6 lets pass is longer. A rep call is one line, which executes all of
+    its elements: record only the first."""
     registers, input = struct(_raw.hvpm_registers, rcx=rcx, rdx=rdx, r8=r8), data(input)
     return text("hypercall_line", caller(by), registers, input, len(input))
 

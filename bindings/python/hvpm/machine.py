@@ -6,12 +6,13 @@ import ctypes
 import enum
 import threading
 from dataclasses import dataclass
-from typing import Any, Callable, FrozenSet, Iterable, Optional, Sequence, Tuple
+from typing import Any, Callable, FrozenSet, Iterable, Iterator, Optional, Sequence, Tuple
 
 from . import _raw
 from ._convert import Data, bits_of, caller, check, data, reply_of, text, vectors_of
 from ._library import call, checked, struct
-from .replies import Made, Reply, Run, Status
+from .forms import by_names
+from .replies import Made, Message, Reply, Run, Status
 
 SELF = _raw.HVPM_SELF
 """HV_PARTITION_ID_SELF. In a hypercall, this partition id means the caller's own partition."""
@@ -95,6 +96,26 @@ class Partition:
     connections: int
 
 
+@dataclass(frozen=True)
+class PageRun:
+    """Pages of a partition whose numbers follow each other, as `Machine.page_after` returns them."""
+
+    page: int
+    """The first page."""
+    count: int
+    """The number of pages, at least 1."""
+    pooled: bool
+    """Whether they are in the partition's pool. Otherwise they are loose."""
+
+
+def _each(after: Callable[[Optional[int]], Optional[int]]) -> Iterator[int]:
+    """Gives each number that `after` finds above the one before."""
+    number = after(None)
+    while number is not None:
+        yield number
+        number = after(number)
+
+
 def is_msr(msr: int) -> bool:
     """Returns whether the machine implements this model-specific register. The VMM handles all others."""
     return bool(call("is_msr", msr))
@@ -111,9 +132,33 @@ def _registers(pairs: Iterable[Tuple[int, int]]) -> Any:
     return (_raw.hvpm_vp_register * len(structs))(*structs)
 
 
-def _count(elements: Sequence[Any]) -> int:
+def _count(elements: Any) -> int:
     """The count of a rep call. P5 refuses a count of more than 12 bits."""
     return min(len(elements), 0xFFFF)
+
+
+@dataclass(frozen=True)
+class Record:
+    """What a machine that was booted with `record` did since the record was last taken."""
+
+    script: str
+    """The boot and the events as lines of a script, which `hvpm run SCRIPT --serial` repeats."""
+    audit: str
+    """The audit lines of the events."""
+    is_cut: bool
+    """Whether the record ended before the machine's last event: memory ran out, or another event came between
+    two elements of a rep call, which a script has in one line."""
+
+
+def _copy(kept: Any) -> str:
+    """Copies a text of a record."""
+    return ctypes.string_at(kept.at, kept.len).decode("ascii") if kept.len else ""
+
+
+def _take(kept: Any) -> str:
+    """Copies a text of a record, and empties it."""
+    taken, kept.len = _copy(kept), 0
+    return taken
 
 
 class Machine:
@@ -127,13 +172,17 @@ class Machine:
         raise TypeError("Machine.boot makes a machine")
 
     @classmethod
-    def boot(cls, *, mask: int, pages: int, pool: int, vps: int) -> Machine:
+    def boot(cls, *, mask: int, pages: int, pool: int, vps: int, record: bool = False) -> Machine:
         """Boots a machine. The root partition has id 1 and is Active. It has the privilege mask `mask`,
         `pages` pages (1 to 65,536), of which the first `pool` are in its pool, and `vps` virtual processors
-        (1 to 64). The pool has at least 4 pages for each processor."""
+        (1 to 64). The pool has at least 4 pages for each processor.
+
+        With `record` it records its boot and each of its events: hypercalls, lists, accesses, and what
+        `Pages` do in a guest's place. `script` and `explain` show the record, and `take_record` takes it."""
         machine = object.__new__(cls)
-        machine._lock = threading.Lock()
-        machine._handle = _raw.hvpm_machine()
+        machine._lock, machine._handle = threading.Lock(), _raw.hvpm_machine()
+        if record:
+            machine._handle.record = ctypes.pointer(_raw.hvpm_record())
         config = struct(_raw.hvpm_config, mask=mask, pages=pages, pool=pool, vps=vps)
         check(call("boot", machine._handle, config))
         return machine
@@ -142,10 +191,58 @@ class Machine:
     _handle: Any
 
     def destroy(self) -> None:
-        """Destroys the machine and frees its memory. After that, every event and look raises `Error` with the
-        status EMPTY."""
+        """Destroys the machine and frees its memory, its record's included. After that, every event and look
+        raises `Error` with the status EMPTY."""
         with self._lock:
             call("destroy", self._handle)
+            if self._handle.record:
+                call("record_free", self._handle.record)
+
+    def _record(self, copy: Callable[[Any], str]) -> Record:
+        with self._lock:
+            if not self._handle.record:
+                return Record("", "", False)
+            record = self._handle.record.contents
+            return Record(copy(record.script), copy(record.audit), record.is_cut)
+
+    def take_record(self) -> Record:
+        """Takes what was recorded since the last call. It is empty unless the machine was booted with
+        `record`.
+
+        All scripts in order, and all audits in order with a last line `events N`, are what
+        `hvpm run SCRIPT --serial` reads and prints."""
+        return self._record(_take)
+
+    def _kept(self) -> Record:
+        """What is recorded and wasn't taken."""
+        if not self._handle.record:
+            raise ValueError("the machine has no record: Machine.boot(.., record=True) makes one")
+        return self._record(_copy)
+
+    def script(self) -> str:
+        """Returns what is recorded and wasn't taken, as a script by names, of which `hvpm asm` makes one that
+        the program runs. A last line, a comment, says so if the record ended before the last event."""
+        record = self._kept()
+        end = "# The record ends here: later events aren't in it.\n" if record.is_cut else ""
+        return "".join(map(by_names, record.script.splitlines(True))) + end
+
+    def explain(self, last: Optional[int] = None) -> str:
+        """Returns what is recorded and wasn't taken, in words: a line for each event, as `hvpm explain` prints
+        them. With `last` it returns that many lines at most, those of the last events.
+
+        The events are made again, by a machine of their own. Raises ValueError if the record's beginning was
+        taken."""
+        from ._explain import explained  # here, since it imports this module
+
+        record = self._kept()
+        begin = 0 if last is None or record.is_cut else self.events - last
+        lines = explained(record.script, begin)
+        return "".join(lines if last is None else lines[max(0, len(lines) - last) :])
+
+    def _explain(self, name: str, by: By, *arguments: Any) -> str:
+        """What was the last event, with its arguments and its reply."""
+        with self._lock:
+            return text(name, self._handle, caller(by), *arguments)
 
     def __enter__(self) -> Machine:
         return self
@@ -165,9 +262,9 @@ class Machine:
     # ---- Events ----
 
     def _take(
-        self, name: str, by: By, *arguments: Any, value: Optional[Callable[[], Any]] = None
+        self, name: str, by: By, *arguments: Any, value: Optional[Callable[[bytes], Any]] = None
     ) -> Reply[Any]:
-        """Executes an event. `value` reads what the function stored, if the event was served."""
+        """Executes an event. If it was served, `value` is called with its output."""
         reply, line = _raw.hvpm_reply(), ctypes.create_string_buffer(_raw.HVPM_LINE)
         with self._lock:
             check(call(name, self._handle, caller(by), *arguments, reply, line, _raw.HVPM_LINE))
@@ -175,7 +272,7 @@ class Machine:
 
     def _take_number(self, name: str, by: By, *arguments: Any) -> Reply[int]:
         number = ctypes.c_uint64()
-        return self._take(name, by, *arguments, number, value=lambda: number.value)
+        return self._take(name, by, *arguments, number, value=lambda _: number.value)
 
     def hypercall(self, by: By, rcx: int, rdx: int = 0, r8: int = 0, input: Data = b"") -> Reply[None]:
         """Executes one hypercall: a simple call, or the element of a rep call at its start index.
@@ -197,12 +294,30 @@ class Machine:
         - when the machine takes no more events, or lacks memory for the next element, which isn't executed.
 
         If the reply is MORE, continue with `hvpm.next`. There are no audit lines."""
-        registers, input = struct(_raw.hvpm_registers, rcx=rcx, rdx=rdx, r8=r8), data(input)
+        return self._run("run", by, (rcx, rdx, r8), input, outputs_size)
+
+    def run_at_most(
+        self,
+        by: By,
+        most: int,
+        rcx: int,
+        rdx: int = 0,
+        r8: int = 0,
+        input: Data = b"",
+        outputs_size: int = 4096,
+    ) -> Run:
+        """Like `run`, but also stops after `most` elements, at least 1."""
+        return self._run("run_at_most", by, (rcx, rdx, r8), input, outputs_size, most)
+
+    def _run(
+        self, name: str, by: By, numbers: Tuple[int, int, int], input: Data, size: int, *most: int
+    ) -> Run:
+        registers = struct(_raw.hvpm_registers, rcx=numbers[0], rdx=numbers[1], r8=numbers[2])
+        input, outputs = data(input), ctypes.create_string_buffer(size)
         reply, done = _raw.hvpm_reply(), _raw.hvpm_run_done()
-        outputs = ctypes.create_string_buffer(outputs_size)
         with self._lock:
-            arguments = (registers, input, len(input), reply, outputs, outputs_size, done)
-            check(call("run", self._handle, caller(by), *arguments))
+            arguments = (registers, input, len(input), *most, reply, outputs, size, done)
+            check(call(name, self._handle, caller(by), *arguments))
         return Run(reply_of(reply, b""), done.events, outputs.raw[: done.output_len])
 
     def read_msr(self, by: By, msr: int) -> Reply[None]:
@@ -217,25 +332,28 @@ class Machine:
         """Writes a model-specific register. A write of EOM may show messages and raise vectors."""
         return self._take("write_msr", by, msr, value)
 
-    def read_slot(self, by: By, sint: int) -> Reply[None]:
-        """Reads the message slot of a SINT. The output is 256 bytes, all zero if the slot is empty."""
-        return self._take("read_slot", by, sint)
+    def read_slot(self, by: By, sint: int) -> Reply[Optional[Message]]:
+        """Reads the message slot of a SINT. The value is its message, or None if the slot is empty. The output
+        is 256 bytes, all zero if it is empty."""
+        return self._take("read_slot", by, sint, value=Message.of)
 
     def clear_slot(self, by: By, sint: int) -> Reply[None]:
         """Empties the message slot of a SINT. The next message appears on EOM or on a post."""
         return self._take("clear_slot", by, sint)
 
-    def read_flags(self, by: By, sint: int) -> Reply[None]:
-        """Reads the event flags of a SINT. The output is 256 bytes; flag f is bit f % 8 of byte f // 8."""
-        return self._take("read_flags", by, sint)
+    def read_flags(self, by: By, sint: int) -> Reply[FrozenSet[int]]:
+        """Reads the event flags of a SINT. The value is those that are set. The output is 256 bytes; flag f is
+        bit f % 8 of byte f // 8."""
+        return self._take("read_flags", by, sint, value=lambda output: bits_of(output, 8))
 
     def clear_flag(self, by: By, sint: int, flag: int) -> Reply[None]:
         """Clears one event flag of a SINT."""
         return self._take("clear_flag", by, sint, flag)
 
-    def take_interrupt(self, by: By) -> Reply[None]:
-        """Takes the highest pending vector. The output is one byte: the vector, or 0 if none is pending."""
-        return self._take("take_interrupt", by)
+    def take_interrupt(self, by: By) -> Reply[int]:
+        """Takes the highest pending vector. The value, and the output of one byte, is the vector, or 0 if none
+        is pending."""
+        return self._take("take_interrupt", by, value=lambda output: output[0])
 
     # ---- The 21 hypercalls by their fields. The four rep calls execute the element at `start`. ----
 
@@ -283,7 +401,7 @@ class Machine:
         page."""
         array = (ctypes.c_uint64 * count)()
         return self._take(
-            "withdraw_memory", by, partition, array, _count(array), start, value=lambda: array[start]
+            "withdraw_memory", by, partition, array, _count(array), start, value=lambda _: array[start]
         )
 
     def get_memory_balance(self, by: By, partition: int) -> Reply[Balance]:
@@ -296,7 +414,7 @@ class Machine:
             partition,
             available,
             in_use,
-            value=lambda: Balance(available.value, in_use.value),
+            value=lambda _: Balance(available.value, in_use.value),
         )
 
     def create_vp(self, by: By, partition: int, vp: int) -> Reply[None]:
@@ -320,7 +438,7 @@ class Machine:
             array,
             _count(array),
             start,
-            value=lambda: array[start].value,
+            value=lambda _: array[start].value,
         )
 
     def set_vp_registers(
@@ -518,9 +636,65 @@ class Machine:
         shown = ctypes.c_uint64()
         return shown.value or None if self._look("child_after", shown, parent, previous) else None
 
+    def _after(self, name: str, shown: Any, partition: int, previous: Optional[int]) -> bool:
+        """Returns whether there is one above `previous`, or at all. Then `shown` has it."""
+        # For the library, this number is below all others.
+        first = previous is None
+        return (first or previous != _raw.HVPM_FIRST) and self._look(
+            name, shown, partition, _raw.HVPM_FIRST if first else previous
+        )
+
+    def _number_after(self, name: str, partition: int, previous: Optional[int]) -> Optional[int]:
+        shown = ctypes.c_uint32()
+        return shown.value if self._after(name, shown, partition, previous) else None
+
+    def vp_after(self, partition: int, previous: Optional[int] = None) -> Optional[int]:
+        """Returns the lowest index above `previous` of a partition's processors, or the lowest of all. None if
+        there is no such processor or partition."""
+        return self._number_after("vp_after", partition, previous)
+
+    def port_after(self, partition: int, previous: Optional[int] = None) -> Optional[int]:
+        """Returns the lowest id above `previous` of a partition's ports, or the lowest of all. None if there is
+        no such port or partition."""
+        return self._number_after("port_after", partition, previous)
+
+    def connection_after(self, partition: int, previous: Optional[int] = None) -> Optional[int]:
+        """Returns the lowest id above `previous` of a partition's connections, or the lowest of all. None if
+        there is no such connection or partition."""
+        return self._number_after("connection_after", partition, previous)
+
+    def page_after(self, partition: int, previous: Optional[int] = None) -> Optional[PageRun]:
+        """Returns the longest run of pages that begins at a partition's lowest page above `previous`, or at its
+        lowest of all. None if there is no such page or partition. Takes time linear in the number of pages from
+        `previous` to the end of the run."""
+        raw = _raw.hvpm_page_run()
+        if not self._after("page_after", raw, partition, previous):
+            return None
+        return PageRun(raw.page, raw.count, bool(raw.pooled))
+
+    def vps(self, partition: int) -> Iterator[int]:
+        """Gives the indexes of a partition's processors, in order."""
+        return _each(lambda previous: self.vp_after(partition, previous))
+
+    def ports(self, partition: int) -> Iterator[int]:
+        """Gives the ids of a partition's ports, in order."""
+        return _each(lambda previous: self.port_after(partition, previous))
+
+    def connections(self, partition: int) -> Iterator[int]:
+        """Gives the ids of a partition's connections, in order."""
+        return _each(lambda previous: self.connection_after(partition, previous))
+
+    def page_runs(self, partition: int) -> Iterator[PageRun]:
+        """Gives the pages of a partition as runs, in order. After the effect `Pages`, those of the deleted
+        partition are among those of its target."""
+        run = self.page_after(partition)
+        while run is not None:
+            yield run
+            run = self.page_after(partition, run.page + run.count - 1)
+
     def page_owner(self, page: int) -> Optional[int]:
         """Returns the partition that owns a page. None if there is no such page. Takes time linear in the
-        number of partition ids ever used."""
+        number of partition ids ever used: for the pages of a partition, call `page_runs`."""
         shown = ctypes.c_uint64()
         return shown.value if self._look("page_owner", shown, page) else None
 

@@ -11,18 +11,15 @@ each event:
 from __future__ import annotations
 
 import ctypes
-from typing import Any, Callable, FrozenSet, List, Optional, Tuple
+from typing import Any, FrozenSet, List, Optional, Tuple
 
 from . import _raw
-from ._convert import bits_of, caller, check, reply_of
+from ._convert import bits_of, caller, check
 from ._library import call
-from .lines import Access
 from .machine import Machine
 from .replies import Caller, Reply
 
 SIZE = 4096
-
-Record = Callable[[Caller, Access, int, int, "Reply[None]"], None]
 
 
 def _page(memory: Any) -> Any:
@@ -36,35 +33,16 @@ def _page(memory: Any) -> Any:
 
 
 class Pages:
-    """The pages of a processor, which has none at first.
+    """The pages of a processor, which has none at first. In the audit and in a machine's record the events
+    that are made in the guest's place are the guest's own."""
 
-    `record` is called for each event that is made in the guest's place. It gets the processor, the access,
-    the MSR or the SINT, the event flag or 0, and the reply."""
-
-    def __init__(self, of: Tuple[int, int], record: Optional[Record] = None) -> None:
+    def __init__(self, of: Tuple[int, int]) -> None:
         self._raw = _raw.hvpm_pages(of=caller(of))
-        self._error: Optional[BaseException] = None
         self._memory: List[Any] = []  # The pages that the library uses.
-        if record is not None:
-            self._record = record
-            self._raw.record = dict(_raw.hvpm_pages._fields_)["record"](self._tell)
-
-    def _tell(self, _: Any, by: Any, event: int, number: int, value: int, reply: Any, line: bytes) -> None:
-        """Passes an event from the library to `record`. The library can't pass on an exception."""
-        raw = _raw.hvpm_reply.from_buffer_copy(reply.contents)
-        at = Caller(by.partition, by.vp)
-        try:
-            self._record(at, Access(event), number, value, reply_of(raw, line))
-        except BaseException as error:
-            self._error = error
 
     def _keep(self, name: str, machine: Machine, *arguments: Any) -> None:
         with machine._lock:
-            status = call("pages_" + name, machine._handle, self._raw, *arguments)
-        error, self._error = self._error, None
-        if error is not None:
-            raise error
-        check(status)
+            check(call("pages_" + name, machine._handle, self._raw, *arguments))
 
     @property
     def of(self) -> Caller:

@@ -2,8 +2,9 @@
 from __future__ import annotations
 
 import enum
+import struct
 from dataclasses import dataclass, field
-from typing import Any, Generic, NamedTuple, Optional, Tuple, TypeVar
+from typing import Any, Generic, NamedTuple, Optional, Tuple, TypeVar, cast
 
 from . import _raw
 from ._library import call
@@ -79,6 +80,24 @@ class HvStatus(int):
     __repr__ = __str__
 
 
+@dataclass(frozen=True)
+class Message:
+    """A message in a slot."""
+
+    type: int
+    port: int
+    """The id of the port by which it came."""
+    payload: bytes
+    is_pending: bool
+    """Whether another message waits at this SINT, which a write of EOM shows once the slot is empty."""
+
+    @classmethod
+    def of(cls, slot: bytes) -> Optional[Message]:
+        """Reads the 256 bytes of a slot. None if it is empty."""
+        type, size, flags, port = struct.unpack_from("<IBBxxQ", slot)
+        return cls(type, port, slot[16 : 16 + size], bool(flags & 1)) if type else None
+
+
 class Answer(enum.IntEnum):
     """How an event was answered."""
 
@@ -110,13 +129,29 @@ class Reply(Generic[Value]):
     effect: Effect
     """What the event changed: messages, event flags, vectors, pages and processors."""
     value: Optional[Value]
-    """The output as a number or a `Balance`, if the function says so; None if the event wasn't served."""
+    """The output as a number or what else the function says; None if the event wasn't served."""
     _raw: Any = field(repr=False, compare=False)
 
     @property
     def is_served(self) -> bool:
         """Whether the event was served."""
         return self.answer in (Answer.SERVED, Answer.MORE)
+
+    def expect(self) -> Value:
+        """Returns the value of an event that has to be served. Raises `Refused` if a rule refuses it."""
+        if self.rule is not None:
+            raise Refused(self)
+        return cast(Value, self.value)
+
+
+class Refused(Exception):
+    """A rule refused an event that had to be served."""
+
+    def __init__(self, reply: Reply[Any]) -> None:
+        rule = Rule(reply.rule or 0)
+        line = f"{reply.line.strip()}: " if reply.line else ""
+        super().__init__(f"{line}{rule} doesn't hold: {rule.sentence}")
+        self.reply = reply
 
 
 @dataclass(frozen=True)
@@ -144,10 +179,21 @@ class Made:
     values: Tuple[int, ...] = ()
     """What they output: pages, or values of registers."""
 
+    def expect(self) -> Tuple[int, ...]:
+        """Returns the values of a call whose elements all have to be served. Raises `Refused` if a rule
+        refuses one."""
+        self.reply.expect()
+        return self.values
+
 
 def next(rcx: int, reply: Reply[Any]) -> int:
     """Returns RCX for the next element, after a reply that is MORE."""
     return int(call("next", rcx, reply._raw))
+
+
+def version_number() -> int:
+    """Returns the version of the library as a number: 100 for 0.1.0, and 10203 for 1.2.3."""
+    return int(call("version_number"))
 
 
 def version() -> str:

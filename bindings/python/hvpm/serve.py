@@ -1,17 +1,25 @@
-"""Drives `hvpm serve` through a pipe: a machine in a process of its own, without the library.
+"""Drives `hvpm serve --json` through a pipe: a machine in a process of its own, without the library.
 
-    with hvpm.serve.Session("bin/hvpm") as session:
+    with hvpm.serve.Session() as session:
         session.boot(mask=0xF700000064, pages=64, pool=32, vps=1)
-        (event,) = session.hypercall((1, 0), 0x46)
-        assert event.answer == hvpm.serve.SERVED
+        event = session.call((1, 0), "HvCreatePartition", Flags=0)[-1]
+        assert event.answer == hvpm.serve.SERVED and event.value == 2, session.explain()
 
 A rep call runs to its end, and has an event for each element. "Session" in docs/PROGRAM.md has the
 language."""
 from __future__ import annotations
 
+import json
+import os
+import select
 import subprocess
+import time
 from dataclasses import dataclass
-from typing import IO, List, Optional, Tuple
+from typing import Any, Dict, FrozenSet, List, Optional, Tuple, Union
+
+from ._convert import Data, bits_of, data
+from ._program import find_program
+from .forms import Element, frame
 
 By = Tuple[int, int]
 
@@ -50,6 +58,12 @@ class Event:
         """Whether the event was served."""
         return self.answer in (SERVED, MORE)
 
+    @property
+    def value(self) -> int:
+        """The output as a number, such as the id of a new partition, a register or a vector; 0 without
+        output."""
+        return int.from_bytes(self.output, "little")
+
 
 def event_of(line: str) -> Event:
     """Reads a line of the audit: `N ID.VP WHAT REPLY`."""
@@ -71,70 +85,117 @@ def event_of(line: str) -> Event:
 
 
 class Session:
-    """A run of `PROGRAM serve`. `close` or the end of `with` ends it."""
+    """A run of `PROGRAM serve --json`. `close` or the end of `with` ends it.
 
-    def __init__(self, program: str = "hvpm") -> None:
-        pipe = subprocess.PIPE
-        self._process = subprocess.Popen([program, "serve"], stdin=pipe, stdout=pipe, text=True, bufsize=1)
+    An answer that doesn't come within `timeout` seconds raises TimeoutError, and ends the program. Without
+    `program` it is the one that HVPM names, or else that of a wheel, of a checkout or of PATH."""
+
+    def __init__(self, program: Optional[str] = None, timeout: float = 60.0) -> None:
+        words = [find_program() if program is None else program, "serve", "--json"]
+        self._process = subprocess.Popen(words, stdin=subprocess.PIPE, stdout=subprocess.PIPE)
+        assert self._process.stdin is not None and self._process.stdout is not None  # Popen made them.
+        self._in, self._out = self._process.stdin, self._process.stdout
+        self._timeout, self._heard, self._poll = timeout, b"", select.poll()
+        self._poll.register(self._out, select.POLLIN)
+        try:
+            self._hear()  # its name and version
+        except BaseException:
+            self._end()
+            raise
 
     def __enter__(self) -> Session:
         return self
 
     def __exit__(self, *_: object) -> None:
-        self._process.communicate()
+        self._end()
 
-    def _pipe(self, pipe: Optional[IO[str]]) -> IO[str]:
-        assert pipe is not None  # Popen made it.
-        return pipe
+    def _end(self) -> int:
+        """Ends the program, and returns its status."""
+        try:
+            self._in.close()
+        except BrokenPipeError:
+            pass  # It has ended.
+        try:
+            return self._process.wait(self._timeout)
+        except subprocess.TimeoutExpired:
+            self._process.kill()
+            return self._process.wait()
+        finally:
+            self._out.close()
 
-    def _say(self, line: str) -> None:
-        self._pipe(self._process.stdin).write(line + "\n")
+    def _hear(self) -> Dict[str, Any]:
+        """The program's next line."""
+        end = time.monotonic() + self._timeout
+        while b"\n" not in self._heard:
+            if not self._poll.poll(max(0.0, 1000 * (end - time.monotonic()))):
+                self._process.kill()
+                raise TimeoutError(f"no answer in {self._timeout} seconds")
+            part = os.read(self._out.fileno(), 1 << 16)
+            if not part:
+                raise EOFError("the program ended")
+            self._heard += part
+        line, _, self._heard = self._heard.partition(b"\n")
+        answer: Dict[str, Any] = json.loads(line)
+        return answer
 
-    def _hear(self) -> str:
-        line = self._pipe(self._process.stdout).readline()
-        if not line:
-            raise EOFError("the program ended")
-        return line
+    def _ask(self, line: str) -> Dict[str, Any]:
+        """The answer to a line. Raises `Fault` if it has a fault."""
+        if "\n" in line:
+            raise ValueError("a line has no line feed")
+        self._in.write(line.encode("ascii") + b"\n")
+        self._in.flush()
+        answer = self._hear()
+        if answer["fault"] is not None:
+            raise Fault(f"line {answer['line']}: {answer['fault']}", _events(answer))
+        return answer
 
     def close(self) -> int:
         """Ends the session. Returns the number of its events."""
-        rest, _ = self._process.communicate()
-        if self._process.returncode != 0 or not rest.startswith("events "):
-            raise EOFError(f"the program ended with status {self._process.returncode}")
-        return int(rest.split()[1])
+        try:
+            self._in.close()
+            last = self._hear()
+        finally:
+            status = self._end()
+        if status != 0 or "end" not in last:
+            raise EOFError(f"the program ended with status {status}")
+        return int(last["events"])
+
+    # ---- Events ----
 
     def boot(self, *, mask: int, pages: int, pool: int, vps: int, limit: int = 2**32 - 1) -> None:
-        """Boots a machine. The answer to a table shows whether it did, as a boot has none."""
-        self._say(f"boot {pages} {pool} {vps} {mask:#x} {limit}")
-        self._say("table")
-        first = self._hear()
-        if first.startswith("fault: "):
-            self._hear()  # that the table has none
-            raise Fault(first.rstrip("\n"), [])
-        self._rest_of_table(first)
+        """Boots a machine, once in a session: a second boot is a `Fault`, and changes nothing. So is one that
+        is refused, after which another one may follow."""
+        self._ask(f"boot {pages} {pool} {vps} {mask:#x} {limit}")
 
     def phase(self) -> None:
-        """Begins another phase."""
-        self._say("phase")
+        """Begins another phase. The lines of a phase are of 64 processors at most."""
+        self._ask("phase")
 
     def events(self, line: str) -> List[Event]:
-        """Sends a line of a processor. Returns its event, or one for each element of a rep call."""
-        self._say(line)
-        events: List[Event] = []
-        while not events or events[-1].answer == MORE:
-            heard = self._hear()
-            if heard.startswith("fault: "):
-                raise Fault(heard.rstrip("\n"), events)
-            events.append(event_of(heard))
-        return events
+        """Sends a line of a script. Returns its events: one, or one for each element of a rep call, or none
+        for a line that is skipped, `boot` and `phase`."""
+        return _events(self._ask(line))
+
+    def call(
+        self, by: By, name: str, *elements: Element, reps: Optional[int] = None, **fields: Union[int, Data]
+    ) -> List[Event]:
+        """Makes a hypercall by the names of "Blocks and effects" in docs/POLICY.md. It needs each field. A rep
+        call's elements are page numbers, registers, or pairs of a register and a value, and HvWithdrawMemory
+        needs `reps`, how many pages it takes. The payload of a message is bytes, of which PayloadSize is the
+        length if it isn't given.
+
+            session.call((1, 0), "HvPostMessage", ConnectionId=7, MessageType=1, Payload=b"hello")
+            session.call((1, 0), "HvDepositMemory", 40, 41, PartitionId=2)"""
+        rcx, block = frame(name, elements, reps, fields)
+        return self.hypercall(by, rcx, input=block)
+
+    def hypercall(self, by: By, rcx: int, rdx: int = 0, r8: int = 0, input: Data = b"") -> List[Event]:
+        """Makes a hypercall by its registers. Returns its event, or one for each element of a rep call."""
+        return self.events(f"{by[0]}.{by[1]} call {rcx:#x} {rdx:#x} {r8:#x} {data(input).hex() or '-'}")
 
     def _access(self, by: By, words: str) -> Event:
         (event,) = self.events(f"{by[0]}.{by[1]} {words}")
         return event
-
-    def hypercall(self, by: By, rcx: int, rdx: int = 0, r8: int = 0, input: bytes = b"") -> List[Event]:
-        """Makes a hypercall. Returns its event, or one for each element of a rep call."""
-        return self.events(f"{by[0]}.{by[1]} call {rcx:#x} {rdx:#x} {r8:#x} {input.hex() or '-'}")
 
     def read_msr(self, by: By, msr: int) -> Event:
         """Reads a model-specific register."""
@@ -164,16 +225,40 @@ class Session:
         """Takes the highest pending vector."""
         return self._access(by, "interrupt")
 
-    def _rest_of_table(self, first: str) -> str:
-        lines = [first]
-        while not lines[-1].startswith("pages "):
-            lines.append(self._hear())
-        return "".join(lines)
+    # ---- Looks are no events ----
 
     def table(self) -> str:
         """Returns the table of partitions."""
-        self._say("table")
-        first = self._hear()
-        if first.startswith("fault: "):
-            raise Fault(first.rstrip("\n"), [])
-        return self._rest_of_table(first)
+        return str(self._ask("table")["table"])
+
+    def explain(self) -> Optional[str]:
+        """Returns the last event in words, as `hvpm explain` prints it. None before the first."""
+        told: Optional[str] = self._ask("explain")["explain"]
+        return told
+
+    def _peek(self, of: By, words: str) -> Optional[bytes]:
+        told: Optional[str] = self._ask(f"peek {of[0]}.{of[1]} {words}")["peek"]
+        return None if told is None else bytes.fromhex(told)
+
+    def peek_slot(self, of: By, sint: int) -> Optional[bytes]:
+        """Returns the 256 bytes of a message slot. None if there is no such processor or SINT."""
+        return self._peek(of, f"slot {sint}")
+
+    def peek_flags(self, of: By, sint: int) -> Optional[FrozenSet[int]]:
+        """Returns the event flags of a SINT that are set. None if there is no such processor or SINT."""
+        told = self._peek(of, f"flags {sint}")
+        return None if told is None else bits_of(told, 8)
+
+    def peek_msr(self, of: By, msr: int) -> Optional[int]:
+        """Returns a model-specific register. None if there is no such processor or register."""
+        told = self._peek(of, f"rdmsr {msr:#x}")
+        return None if told is None else int.from_bytes(told, "little")
+
+    def peek_pending(self, of: By) -> Optional[FrozenSet[int]]:
+        """Returns the vectors that are pending at a processor. None if there is no such processor."""
+        told = self._peek(of, "pending")
+        return None if told is None else bits_of(told, 8)
+
+
+def _events(answer: Dict[str, Any]) -> List[Event]:
+    return [event_of(line + "\n") for line in answer["events"]]

@@ -44,10 +44,11 @@ SLOT = bytes([1, 0, 0, 0, 1, 0, 0, 0, 2]).ljust(16, b"\0") + b"h".ljust(240, b"\
 FLAGS = bytes([0x20]).ljust(256, b"\0")
 
 
-def with_child():
+def with_child(**how):
     """A root, and partition 2 with processor 0 and 12 pages, from 20 on. The root has connection POST to its
     port 5 for messages at SINT 2, and SIGNAL to its port 7 for the flags from 8 on at SINT 3."""
-    machine, flags = boot(pages=64, pool=16), {"base_flag": 8, "flag_count": 4}
+    machine = hvpm.Machine.boot(mask=MASK, pages=64, pool=16, vps=1, **how)
+    flags = {"base_flag": 8, "flag_count": 4}
     replies = [machine.create_partition(ROOT), machine.initialize_partition(ROOT, 2)]
     replies += [machine.deposit_memory(ROOT, 2, range(20, 32), at) for at in range(12)]
     replies += [

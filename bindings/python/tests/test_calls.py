@@ -4,7 +4,7 @@ import pathlib
 import unittest
 
 import hvpm
-from hvpm import ANY_VP, SELF, Answer, Balance, PortType, Property
+from hvpm import ANY_VP, SELF, Answer, Balance, Message, PortType, Property
 
 from .shared import EOM, EVENTS, ROOT, boot
 
@@ -61,8 +61,8 @@ class Calls(unittest.TestCase):
         self.take(m.connect_port(by, partition=2, id=7, port_partition=1, port=5, type=PortType.MESSAGES))
         self.take(m.post_message(by, 7, 1, b"hello"))
         self.take(m.create_partition(by))
-        self.take(m.take_interrupt(ROOT))
-        self.take(m.read_slot(ROOT, 2))
+        self.take(m.take_interrupt(ROOT), 0x30)
+        self.take(m.read_slot(ROOT, 2), Message(type=1, port=5, payload=b"hello", is_pending=False))
         self.take(m.clear_slot(ROOT, 2))
         self.take(m.write_msr(ROOT, EOM, 0))
 
@@ -101,7 +101,7 @@ class Calls(unittest.TestCase):
         self.take(m.signal_event(ROOT, 8, 3))
         self.take(m.signal_event(ROOT, 8, 4))
         self.take(m.clear_flag(SECOND, 3, 11))
-        self.take(m.take_interrupt(SECOND))
+        self.take(m.take_interrupt(SECOND), 0x33)
 
     def test_lists_and_payloads_that_are_too_long_are_refused(self):
         """P5 and P6 refuse a list that no page has room for, and P7 a payload of more than 240 bytes."""

@@ -50,6 +50,21 @@ class Looks(unittest.TestCase):
         self.assertIsNone(machine.child_after(4))
         self.assertEqual((machine.page_owner(31), machine.page_owner(32)), (1, None))
 
+    def test_what_a_partition_has_is_listed(self):
+        machine = with_message_and_flag()
+        self.assertEqual([machine.vp_after(1), machine.vp_after(1, 0), machine.vp_after(9)], [0, None, None])
+        self.assertEqual([machine.port_after(1), machine.port_after(1, 2), machine.port_after(1, 3)], [2, 3, None])
+        self.assertEqual([machine.connection_after(1, id) for id in (None, 2, 3)], [2, 3, None])
+        self.assertIsNone(machine.port_after(1, 2**32 - 1))
+        lists = machine.vps(1), machine.ports(1), machine.connections(1), machine.ports(2)
+        self.assertEqual([list(each) for each in lists], [[0], [2, 3], [2, 3], []])
+        machine.withdraw_pages(ROOT, 1, 2)
+        runs = [hvpm.PageRun(0, 2, False), hvpm.PageRun(2, 10, True), hvpm.PageRun(12, 20, False)]
+        self.assertEqual(list(machine.page_runs(1)), runs)
+        self.assertEqual(machine.page_after(1, 11), runs[2])
+        self.assertEqual([machine.page_after(1, 31), machine.page_after(2)], [None, None])
+        self.assertIsNone(machine.page_after(1, 2**32 - 1))
+
     def test_a_mask_is_features_of_cpuid(self):
         machine = boot()
         self.assertEqual((machine.features(1), machine.features(2)), ((0x44, 0xF7, 0, 0), None))

@@ -147,6 +147,17 @@ class Machines(unittest.TestCase):
             machine.run(ROOT, rcx, input=b"\1", outputs_size=15)
         self.assertEqual(machine.events, 3)
 
+    def test_a_run_is_bounded(self):
+        with boot() as machine:
+            rcx = 8 << 32 | hvpm.Call.WITHDRAW_MEMORY
+            run = machine.run_at_most(ROOT, 3, rcx, input=b"\1")
+            self.assertEqual((run.events, run.reply.answer, run.reply.next), (3, hvpm.Answer.MORE, 3))
+            run = machine.run_at_most(ROOT, 9, hvpm.next(rcx, run.reply), input=b"\1")
+            self.assertEqual((run.events, run.reply.answer, len(run.outputs)), (5, hvpm.Answer.SERVED, 40))
+            with self.assertRaises(hvpm.Error) as raised:
+                machine.run_at_most(ROOT, 0, rcx, input=b"\1")
+            self.assertEqual((raised.exception.status, machine.events), (hvpm.Status.SHORT, 8))
+
     def test_each_call_has_the_machine_alone(self):
         """A call waits as long as another one has the machine."""
         machine, pages = boot(), hvpm.Pages(ROOT)

@@ -10,6 +10,8 @@ class Names(unittest.TestCase):
     def test_the_version_is_that_of_the_package(self):
         text = (pathlib.Path(__file__).parents[1] / "pyproject.toml").read_text()
         self.assertEqual([hvpm.version()], re.findall(r'^version = "(.*)"', text, re.M))
+        major, minor, patch = map(int, hvpm.version().split("."))
+        self.assertEqual(hvpm.version_number(), major * 10000 + minor * 100 + patch)
 
     def test_statuses_of_the_library_have_names(self):
         for status in hvpm.Status:

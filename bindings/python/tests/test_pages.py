@@ -2,7 +2,7 @@
 import mmap
 import unittest
 
-from hvpm import Access, Caller, Error, Pages, Status
+from hvpm import Caller, Error, Pages, Status
 
 from .shared import EOM, GUEST, POST, ROOT, SIGNAL, enable, with_child
 
@@ -16,8 +16,8 @@ class Guests(unittest.TestCase):
             memoryview(self.memory)[at : at + 4096] for at in range(0, 4 * 4096, 4096)
         )
 
-    def pages(self, record=None):
-        pages = Pages(GUEST, record)
+    def pages(self):
+        pages = Pages(GUEST)
         pages.move(self.machine, self.messages, self.flags)
         return pages
 
@@ -86,34 +86,6 @@ class Guests(unittest.TestCase):
             memory.close()
         pages.move(self.machine, None, None)
         memory.close()
-
-    def test_events_in_the_guests_place_are_recorded(self):
-        seen = []
-        pages = self.pages(lambda *event: seen.append(event))
-        machine = self.machine
-        first = machine.events
-        self.post(pages, b"a")
-        self.free(self.messages)
-        pages.before(machine)
-        pages.vector(machine)
-        pages.after(machine, machine.signal_event(ROOT, SIGNAL, 2))
-        wanted = [
-            (Access.CLEAR_SLOT, 2, 0, f"{first + 2} 2.0 clearslot 2 ok -\n"),
-            (Access.TAKE_INTERRUPT, 0, 0, f"{first + 3} 2.0 interrupt ok 82\n"),
-            (Access.CLEAR_FLAG, 3, 10, f"{first + 5} 2.0 clearflag 3 10 ok -\n"),
-        ]
-        self.assertEqual([(*event[1:4], event[4].line) for event in seen], wanted)
-        self.assertEqual(([event[0] for event in seen], machine.events), ([GUEST] * 3, first + 5))
-
-    def test_what_a_recorder_raises_arrives(self):
-        def record(*_):
-            raise KeyError("a mistake of the test")
-
-        pages = self.pages(record)
-        self.post(pages, b"a")
-        with self.assertRaises(KeyError):
-            pages.vector(self.machine)
-        self.assertIsNone(pages.vector(self.machine))
 
     def test_a_processor_that_goes_loses_its_pages(self):
         machine, pages, others = self.machine, self.pages(), Pages((1, 0))

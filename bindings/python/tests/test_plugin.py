@@ -11,6 +11,7 @@ from unittest import mock
 
 from .shared import ROOT
 
+PROGRAM = os.environ.get("HVPM", "hvpm")
 FOLDER = Path(__file__).resolve().parents[1]
 TEST = """
 import pytest
@@ -27,7 +28,8 @@ def test_mark(hvpm_machine):
 
 def load():
     """The plugin, with a stand-in for pytest whose decorator gives the function itself."""
-    stand_in = types.SimpleNamespace(fixture=lambda function: function)
+    itself = lambda function: function
+    stand_in = types.SimpleNamespace(fixture=itself, hookimpl=lambda **_: itself)
     with mock.patch.dict(sys.modules, {"pytest": stand_in}):
         path = FOLDER / "hvpm/pytest_plugin.py"
         spec = importlib.util.spec_from_file_location("hvpm.pytest_plugin_here", path)
@@ -43,6 +45,32 @@ def machines(plugin, **mark):
     return plugin.hvpm_machine(types.SimpleNamespace(node=node))
 
 
+FAILING = """
+def test_post(hvpm_machine):
+    hvpm_machine.create_vp((1, 0), 5, 0)
+    hvpm_machine.signal_event((1, 0), 3, 1)
+    assert not "on purpose"
+"""
+SCRIPT = """\
+boot 64 32 1 0xf700000064 4294967295
+1.0 HvCreateVp fast PartitionId=5 VpIndex=0
+1.0 HvSignalEvent fast ConnectionId=3 FlagNumber=1
+"""
+
+
+def pytest_run(test, *words):
+    """What pytest prints of a test, and the files of its cache."""
+    with tempfile.TemporaryDirectory() as folder:
+        path = Path(folder) / "test_it.py"
+        path.write_text(test)
+        environment = {**os.environ, "PYTHONPATH": str(FOLDER), "HVPM": PROGRAM}
+        words = ["-m", "pytest", "-q", "--strict-markers", "-p", "hvpm.pytest_plugin", *words, str(path)]
+        how = {"cwd": folder, "env": environment, "capture_output": True, "text": True}
+        told = subprocess.run([sys.executable, *words], **how)
+        scripts = {file.name: file.read_text() for file in Path(folder).rglob("*.hva")}
+        return told.stdout + told.stderr, scripts
+
+
 class Plugin(unittest.TestCase):
     def test_a_test_gets_a_machine_of_its_own(self):
         plugin = load()
@@ -56,6 +84,58 @@ class Plugin(unittest.TestCase):
         with self.assertRaisesRegex(Exception, "destroyed"):
             machine.peek_partition(1)
 
+    def report(self, folder, program, when="call", failed=True, take=False):
+        """The sections of a test's report, by their titles. Without a folder pytest has no cache."""
+        plugin = load()
+        fixture = machines(plugin)
+        machine = next(fixture)
+        machine.create_vp(ROOT, 5, 0)
+        if take:
+            machine.take_record()
+        machine.signal_event(ROOT, 3, 1)
+        report = types.SimpleNamespace(when=when, failed=failed, sections=[])
+        cache = types.SimpleNamespace(mkdir=lambda name: Path(folder, name)) if folder else None
+        config = types.SimpleNamespace(cache=cache)
+        item = types.SimpleNamespace(funcargs={"hvpm_machine": machine}, config=config, nodeid="a/t.py::x[1 2]")
+        hook = plugin.pytest_runtest_makereport(item)
+        next(hook)
+        with self.assertRaises(StopIteration), mock.patch.dict(os.environ, {"HVPM": program}):
+            hook.send(types.SimpleNamespace(get_result=lambda: report))
+        return dict(report.sections)
+
+    def test_a_test_that_fails_shows_its_events(self):
+        with tempfile.TemporaryDirectory() as folder:
+            Path(folder, "hvpm").mkdir()
+            told = self.report(folder, PROGRAM)
+            file = Path(folder, "hvpm/a_t.py_x_1_2_.hva")
+            self.assertEqual(file.read_text(), SCRIPT)
+        words, further = told["hvpm: the last events"], told["hvpm: look further"]
+        self.assertEqual([line.split(" ")[:3] for line in words.splitlines()],
+                         [["1", "1.0", "HvCreateVp"], ["2", "1.0", "HvSignalEvent"]])
+        self.assertIn("denied HV_STATUS_INVALID_PARTITION_ID, P9", words)
+        self.assertEqual(further.splitlines()[0], f"{PROGRAM} asm {file} >run.hv")
+        self.assertIn(f"{PROGRAM} explain run.hv ", further)
+
+    def test_a_report_without_cache_or_program_has_the_script(self):
+        told = self.report(None, "/nowhere")
+        self.assertEqual(told["hvpm: the script"], SCRIPT)
+        self.assertIn("denied HV_STATUS_INVALID_PARTITION_ID, P9", told["hvpm: the last events"])
+
+    def test_a_record_that_was_taken_is_not_explained(self):
+        told = self.report(None, PROGRAM, take=True)
+        self.assertEqual(told["hvpm: the last events"], "not explained: the record's beginning was taken\n")
+
+    def test_a_test_that_passes_has_no_more(self):
+        self.assertEqual(self.report(None, PROGRAM, failed=False), {})
+        self.assertEqual(self.report(None, PROGRAM, when="setup"), {})
+
+    def test_a_test_without_a_machine_may_fail(self):
+        report = types.SimpleNamespace(when="call", failed=True, sections=[])
+        hook = load().pytest_runtest_makereport(types.SimpleNamespace(funcargs={}))
+        next(hook)
+        self.assertRaises(StopIteration, hook.send, types.SimpleNamespace(get_result=lambda: report))
+        self.assertEqual(report.sections, [])
+
     def test_the_mark_is_registered(self):
         lines = []
         load().pytest_configure(types.SimpleNamespace(addinivalue_line=lambda *words: lines.append(words)))
@@ -63,10 +143,18 @@ class Plugin(unittest.TestCase):
 
     @unittest.skipUnless(importlib.util.find_spec("pytest"), "pytest isn't there")
     def test_pytest_has_the_fixture(self):
-        with tempfile.TemporaryDirectory() as folder:
-            path = Path(folder) / "test_it.py"
-            path.write_text(TEST)
-            environment = {**os.environ, "PYTHONPATH": str(FOLDER)}
-            words = ["-m", "pytest", "-q", "--strict-markers", "-p", "hvpm.pytest_plugin", str(path)]
-            told = subprocess.run([sys.executable, *words], env=environment, capture_output=True, text=True)
-        self.assertIn("2 passed", told.stdout, told.stdout + told.stderr)
+        told, scripts = pytest_run(TEST)
+        self.assertIn("2 passed", told)
+        self.assertEqual(scripts, {})
+
+    @unittest.skipUnless(importlib.util.find_spec("pytest"), "pytest isn't there")
+    def test_pytest_shows_why_a_test_failed(self):
+        told, scripts = pytest_run(FAILING)
+        self.assertEqual(scripts, {"test_it.py_test_post.hva": SCRIPT})
+        at = told.index('assert not "on purpose"')
+        self.assertIn("hvpm: the last events", told[at:])
+        self.assertIn("denied HV_STATUS_INVALID_CONNECTION_ID, P16", told[at:])
+        self.assertRegex(told[at:], r"\n\S+ asm \S+/hvpm/test_it.py_test_post.hva >run.hv\n\S+ explain run.hv ")
+        told, scripts = pytest_run(FAILING, "-p", "no:cacheprovider")
+        self.assertIn("1.0 HvSignalEvent fast ConnectionId=3 FlagNumber=1", told)
+        self.assertEqual(scripts, {})

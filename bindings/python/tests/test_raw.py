@@ -56,7 +56,9 @@ class Declarations(unittest.TestCase):
         with contextlib.redirect_stdout(io.StringIO()) as printed:
             exec(code, {})
         line = "2 1.0 call 0000000000000095 denied 0000000000000007 P12\n"
-        self.assertEqual(printed.getvalue(), f"HV_STATUS_INVALID_PARTITION_STATE Nothing() {line}\n")
+        told = printed.getvalue()
+        self.assertTrue(told.startswith(f"HV_STATUS_INVALID_PARTITION_STATE Nothing() {line}\n1 1.0 Hv"), told)
+        self.assertIn("P12: the target's life state doesn't allow the call", told)
 
 
 class Finding(unittest.TestCase):
@@ -76,8 +78,18 @@ class Finding(unittest.TestCase):
         self.assertEqual(self.version(LD_LIBRARY_PATH="/nowhere", HVPM_LIB=folder), f"{hvpm.version()}\n")
 
     def test_a_library_that_is_missing_is_named(self):
-        with unittest.mock.patch.object(_library, "FILE", "libhvpm-missing.so.1"):
+        with unittest.mock.patch.object(_library, "FILE", "libhvpm-missing.so"):
             with unittest.mock.patch.dict(os.environ):
                 os.environ.pop("HVPM_LIB", None)
                 with self.assertRaisesRegex(ImportError, "HVPM_LIB isn't set.*LD_LIBRARY_PATH"):
                     _library._open()
+
+    def test_a_library_of_another_version_is_refused(self):
+        for wanted, is_refused in ((0, True), (99, True), (100, False), (101, True), (200, True), (10100, True)):
+            with unittest.mock.patch.object(_library._raw, "HVPM_VERSION", wanted):
+                _library._library.cache_clear()
+                if is_refused:
+                    self.assertRaisesRegex(ImportError, f"needs {wanted}", _library._library)
+                else:
+                    _library._library()
+        _library._library.cache_clear()

@@ -1,9 +1,11 @@
 """The pipe, with the program that HVPM names."""
 import os
+import signal
 import subprocess
 import sys
 import unittest
 
+import hvpm
 from hvpm import serve
 from hvpm.serve import DENIED, FAULT, MORE, SERVED, Event, Session
 
@@ -28,7 +30,7 @@ class Lines(unittest.TestCase):
         self.assertEqual((serve.event_of(line), event.is_served), (event, False))
         line = "9 1.0 clearflag 3 65535 fault P21\n"
         event = Event(9, ROOT, "clearflag 3 65535", FAULT, 0, b"", "P21", line)
-        self.assertEqual(serve.event_of(line), event)
+        self.assertEqual((serve.event_of(line), event.value), (event, 0))
 
     def test_no_library_is_needed(self):
         """`hvpm.serve` loads none."""
@@ -50,7 +52,7 @@ class Sessions(unittest.TestCase):
     def test_calls_and_accesses_are_answered(self):
         session = self.boot()
         (event,) = session.hypercall(ROOT, 0x46)
-        self.assertEqual((event.answer, event.output), (SERVED, b"\1" + bytes(7)))
+        self.assertEqual((event.answer, event.output, event.value), (SERVED, b"\1" + bytes(7), 1))
         events = session.hypercall(ROOT, 3 << 32 | 0x49, input=b"\1")
         self.assertEqual([event.answer for event in events], [MORE, MORE, SERVED])
         self.assertEqual([event.output[0] for event in events], [0, 1, 2])
@@ -69,13 +71,90 @@ class Sessions(unittest.TestCase):
         self.assertIn("partition 1 parent - Active", session.table())
         self.assertEqual(session.close(), 13)
 
+    def test_calls_have_fields(self):
+        session = self.boot()
+        self.assertEqual(session.call(ROOT, "HvCreatePartition", Flags=0)[0].value, 2)
+        events = session.call(ROOT, "HvDepositMemory", 20, 21, 22, 23, 24, 25, PartitionId=2)
+        self.assertEqual([event.answer for event in events], 5 * [MORE] + [SERVED])
+        self.assertEqual(session.call(ROOT, "HvInitializePartition", PartitionId=2)[0].answer, SERVED)
+        withdrawn = session.call(ROOT, "HvWithdrawMemory", reps=2, PartitionId=2)
+        self.assertEqual([event.value for event in withdrawn], [20, 21])
+        pairs = (hvpm.Register.RAX, 5), (hvpm.Register.SINT2, 0x33)
+        written = session.call(ROOT, "HvSetVpRegisters", *pairs, PartitionId=hvpm.SELF, VpIndex=0)
+        self.assertEqual([event.answer for event in written], [MORE, SERVED])
+        read = session.call(ROOT, "HvGetVpRegisters", *dict(pairs), PartitionId=hvpm.SELF, VpIndex=0)
+        self.assertEqual([event.value for event in read], [5, 0x33])
+        fields = {"PortPartition": 1, "PortId": 9, "ConnectionPartition": 1, "PortType": 1, "TargetSint": 2}
+        flags = {"TargetVp": 0, "BaseFlagNumber": 0, "FlagCount": 0}
+        self.assertTrue(session.call(ROOT, "HvCreatePort", **fields, **flags)[0].is_served)
+        link = {"ConnectionPartition": 1, "ConnectionId": 4, "PortPartition": 1, "PortId": 9, "PortType": 1}
+        self.assertTrue(session.call(ROOT, "HvConnectPort", **link)[0].is_served)
+        for msr in (hvpm.Msr.SCONTROL, hvpm.Msr.SIMP):
+            session.write_msr(ROOT, msr, 1)
+        message = {"ConnectionId": 4, "MessageType": 7}
+        self.assertTrue(session.call(ROOT, "HvPostMessage", **message, Payload=bytearray(b"hello"))[0].is_served)
+        self.assertEqual(session.peek_slot(ROOT, 2)[16:22], b"hello\0")
+        (event,) = session.call(ROOT, "HvPostMessage", **message, PayloadSize=241, Payload=b"")
+        self.assertEqual((event.rule, event.output), ("P7", b""))
+        for name, elements, given, error in (
+            ("HvPostMessage", (), {**message, "Payload": "text"}, "bytes are wanted, and not str: encode it"),
+            ("HvPostMessage", (), {**message, "Payload": 5}, "bytes are wanted, and not int"),
+            ("HvPostMessage", (), message, "the fields of HvPostMessage are ConnectionId, "),
+            ("HvGetPartitionId", (), {"PartitionId": 1}, "HvGetPartitionId are none, and not PartitionId"),
+            ("HvGetPartitionId", (1,), {}, "takes no elements"),
+            ("HvSignalEvent", (), {"ConnectionId": b"", "FlagNumber": 1}, "ConnectionId is a number"),
+            ("HvDepositMemory", ((1, 2),), {"PartitionId": 1}, "an element of this call is a number"),
+            ("HvSetVpRegisters", (1,), {"PartitionId": 1, "VpIndex": 0}, "is a pair"),
+            ("HvGetPartition", (), {}, "no call HvGetPartition"),
+        ):
+            with self.assertRaisesRegex(TypeError, error):
+                session.call(ROOT, name, *elements, **given)
+        for given in ({"ConnectionId": 1 << 32, "FlagNumber": 1}, {"ConnectionId": 1, "FlagNumber": -1}):
+            with self.assertRaises(OverflowError):
+                session.call(ROOT, "HvSignalEvent", **given)
+        with self.assertRaisesRegex(OverflowError, "at most 240 bytes"):
+            session.call(ROOT, "HvPostMessage", **message, Payload=bytes(241))
+
+    def test_looks_are_no_events(self):
+        session = self.boot()
+        self.assertIsNone(session.explain())
+        self.assertEqual(session.peek_msr(ROOT, hvpm.Msr.SINT2), 0x10000)
+        self.assertEqual((session.peek_flags(ROOT, 3), session.peek_pending(ROOT)), (frozenset(), frozenset()))
+        self.assertEqual(session.peek_slot(ROOT, 15), bytes(256))
+        nowhere = (9, 0)
+        self.assertEqual([session.peek_slot(ROOT, 16), session.peek_msr(ROOT, 1)], [None, None])
+        self.assertEqual([session.peek_flags(nowhere, 0), session.peek_pending(nowhere)], [None, None])
+        session.call(ROOT, "HvCreateVp", PartitionId=7, VpIndex=0)
+        told = "1 1.0 HvCreateVp partition 7, vp 0: denied HV_STATUS_INVALID_PARTITION_ID, P9: "
+        self.assertTrue(session.explain().startswith(told), session.explain())
+        self.assertEqual(session.close(), 1)
+
+    def test_lines_without_an_event_have_none(self):
+        session = self.boot()
+        self.assertEqual([session.events(line) for line in ("phase", "", "# nothing")], [[], [], []])
+        self.assertRaises(ValueError, session.events, "1.0 interrupt\n1.0 interrupt")
+        self.assertEqual(len(session.events("1.0 interrupt")), 1)
+
+    def test_a_second_boot_is_an_error(self):
+        session = self.boot()
+        session.take_interrupt(ROOT)
+        with self.assertRaisesRegex(serve.Fault, "line 3: second boot$"):
+            self.boot()
+        self.assertEqual((session.take_interrupt(ROOT).number, session.close()), (2, 2))
+
+    def test_an_answer_that_does_not_come_is_an_error(self):
+        session = Session(PROGRAM, timeout=0.2)
+        os.kill(session._process.pid, signal.SIGSTOP)
+        with session, self.assertRaisesRegex(TimeoutError, "no answer in 0.2 seconds"):
+            session.phase()
+
     def test_a_boot_may_be_refused_and_repeated(self):
         with self.assertRaisesRegex(serve.Fault, "boot refused: pool$"):
             self.boot(pool=33)
         self.assertEqual(self.boot().hypercall(ROOT, 0x46)[0].number, 1)
 
     def test_faults_are_raised(self):
-        with self.assertRaisesRegex(serve.Fault, "no boot$"):
+        with self.assertRaisesRegex(serve.Fault, "line 1: no boot$"):
             self.session.table()
         session = self.boot()
         with self.assertRaisesRegex(serve.Fault, "unknown word$") as raised:
@@ -90,7 +169,9 @@ class Sessions(unittest.TestCase):
         self.assertEqual([event.answer for event in raised.exception.events], [MORE, MORE])
 
     def test_a_program_that_ends_is_noticed(self):
-        with Session("true") as session, self.assertRaises((EOFError, BrokenPipeError)):
-            session.boot(mask=MASK, pages=32, pool=12, vps=1)
-        with self.assertRaises(EOFError):
-            Session("true").close()
+        self.assertRaises(EOFError, Session, "true")
+        with self.boot() as session:
+            session._process.kill()
+            session._process.wait()
+            self.assertRaises((EOFError, BrokenPipeError), session.phase)
+            self.assertRaises((EOFError, BrokenPipeError), session.close)

@@ -7,7 +7,7 @@
 //! ```
 //! use core::ptr::null_mut;
 //!
-//! let mut machine = hvpm_sys::hvpm_machine { live: false, events: 0, at: null_mut() };
+//! let mut machine = hvpm_sys::hvpm_machine { live: false, events: 0, at: null_mut(), record: null_mut() };
 //! let config = hvpm_sys::hvpm_config { mask: 0xf7_0000_0044, pages: 32, pool: 12, vps: 1 };
 //! let mut child = 0;
 //! // SAFETY: each pointer leads to a value of its type, and the handle begins empty.

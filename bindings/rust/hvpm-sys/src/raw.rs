@@ -6,12 +6,16 @@ use core::mem::{offset_of, size_of};
 pub const HVPM_VERSION_MAJOR: u32 = 0;
 pub const HVPM_VERSION_MINOR: u32 = 1;
 pub const HVPM_VERSION_PATCH: u32 = 0;
+pub const HVPM_VERSION: u32 = 100;
 pub const HVPM_ANY_VP: u32 = 0xffffffff;
 pub const HVPM_LINE: usize = 768;
 pub const HVPM_OUTPUT: usize = 16;
 pub const HVPM_SELF: u64 = 0xffffffffffffffff;
+pub const HVPM_FIRST: u32 = 0xffffffff;
+pub const HVPM_EXPLANATION: usize = 2048;
 pub const HVPM_EVENT_LINE: usize = 96;
 pub const HVPM_CALL_LINE: usize = 0x2060;
+pub const HVPM_GUEST_SERVED: u32 = 100;
 
 pub const HVPM_EFFECT_NOTHING: u32 = 0;
 pub const HVPM_EFFECT_SYNIC: u32 = 1;
@@ -62,6 +66,7 @@ pub const HVPM_TAKE_INTERRUPT: u32 = 6;
 
 pub const HVPM_MSR_GUEST_OS_ID: u32 = 0x40000000;
 pub const HVPM_MSR_HYPERCALL: u32 = 0x40000001;
+pub const HVPM_MSR_REFERENCE_TSC: u32 = 0x40000021;
 pub const HVPM_MSR_VP_ASSIST_PAGE: u32 = 0x40000073;
 
 pub const HVPM_GUEST_DONE: u32 = 0;
@@ -72,10 +77,38 @@ pub const HVPM_GUEST_OTHER: u32 = 4;
 
 #[repr(C)]
 #[derive(Clone, Copy, Debug)]
+pub struct hvpm_caller {
+    pub partition: u64,
+    pub vp: u32,
+}
+
+#[repr(C)]
+#[derive(Clone, Copy, Debug)]
+pub struct hvpm_text {
+    pub at: *mut c_char,
+    pub len: usize,
+    pub size: usize,
+}
+
+#[repr(C)]
+#[derive(Clone, Copy, Debug)]
+pub struct hvpm_record {
+    pub script: hvpm_text,
+    pub audit: hvpm_text,
+    pub is_cut: bool,
+    pub vps: u32,
+    pub vp: [hvpm_caller; 64],
+    pub rep_by: hvpm_caller,
+    pub rep: u64,
+}
+
+#[repr(C)]
+#[derive(Clone, Copy, Debug)]
 pub struct hvpm_machine {
     pub live: bool,
     pub events: u64,
     pub at: *mut c_void,
+    pub record: *mut hvpm_record,
 }
 
 #[repr(C)]
@@ -85,13 +118,6 @@ pub struct hvpm_config {
     pub pages: u32,
     pub pool: u32,
     pub vps: u32,
-}
-
-#[repr(C)]
-#[derive(Clone, Copy, Debug)]
-pub struct hvpm_caller {
-    pub partition: u64,
-    pub vp: u32,
 }
 
 #[repr(C)]
@@ -165,6 +191,14 @@ pub struct hvpm_connection {
 
 #[repr(C)]
 #[derive(Clone, Copy, Debug)]
+pub struct hvpm_page_run {
+    pub page: u64,
+    pub count: u32,
+    pub pooled: u8,
+}
+
+#[repr(C)]
+#[derive(Clone, Copy, Debug)]
 pub struct hvpm_partition {
     pub mask: u64,
     pub parent: u64,
@@ -206,8 +240,6 @@ pub struct hvpm_pages {
     pub freed: bool,
     pub raised: [u64; 4],
     pub untaken: [u8; 4096],
-    pub record: Option<unsafe extern "C" fn(context: *mut c_void, by: hvpm_caller, event: u32, number: u32, value: u64, reply: *const hvpm_reply, line: *const c_char)>,
-    pub context: *mut c_void,
 }
 
 #[repr(C)]
@@ -231,13 +263,16 @@ pub struct hvpm_guest {
     pub os_id: u64,
     pub hypercall: u64,
     pub assist: [u64; 64],
+    pub tsc_page: u64,
 }
 
-const _: () = assert!(size_of::<hvpm_machine>() == 24 && offset_of!(hvpm_machine, events) == 8 && offset_of!(hvpm_machine, at) == 16);
+const _: () = assert!(size_of::<hvpm_machine>() == 32 && offset_of!(hvpm_machine, events) == 8 && offset_of!(hvpm_machine, at) == 16);
+const _: () = assert!(size_of::<hvpm_text>() == 24 && size_of::<hvpm_record>() == 1104 && offset_of!(hvpm_record, vp) == 56);
 const _: () = assert!(size_of::<hvpm_config>() == 24 && offset_of!(hvpm_config, pages) == 8 && offset_of!(hvpm_config, vps) == 16);
 const _: () = assert!(size_of::<hvpm_caller>() == 16 && offset_of!(hvpm_caller, vp) == 8);
 const _: () = assert!(size_of::<hvpm_registers>() == 24 && offset_of!(hvpm_registers, r8) == 16);
 const _: () = assert!(size_of::<hvpm_run_done>() == 8 && offset_of!(hvpm_run_done, output_len) == 4);
+const _: () = assert!(size_of::<hvpm_page_run>() == 16 && offset_of!(hvpm_page_run, count) == 8 && offset_of!(hvpm_page_run, pooled) == 12);
 const _: () = assert!(size_of::<hvpm_partition>() == 64 && offset_of!(hvpm_partition, life) == 40 && offset_of!(hvpm_partition, connections) == 56);
 const _: () = assert!(size_of::<hvpm_port>() == 40 && offset_of!(hvpm_port, peer) == 16 && offset_of!(hvpm_port, flag_count) == 38);
 const _: () = assert!(size_of::<hvpm_connection>() == 32 && offset_of!(hvpm_connection, port_partition) == 16 && offset_of!(hvpm_connection, type_) == 28);
@@ -250,6 +285,7 @@ unsafe extern "C" {
     pub fn hvpm_destroy(machine: *mut hvpm_machine);
     pub fn hvpm_hypercall(machine: *mut hvpm_machine, by: hvpm_caller, registers: *const hvpm_registers, input: *const c_void, input_len: usize, reply: *mut hvpm_reply, line: *mut c_char, line_size: usize) -> u32;
     pub fn hvpm_run(machine: *mut hvpm_machine, by: hvpm_caller, registers: *const hvpm_registers, input: *const c_void, input_len: usize, reply: *mut hvpm_reply, outputs: *mut c_void, outputs_size: usize, done: *mut hvpm_run_done) -> u32;
+    pub fn hvpm_run_at_most(machine: *mut hvpm_machine, by: hvpm_caller, registers: *const hvpm_registers, input: *const c_void, input_len: usize, most: u32, reply: *mut hvpm_reply, outputs: *mut c_void, outputs_size: usize, done: *mut hvpm_run_done) -> u32;
     pub fn hvpm_next(rcx: u64, reply: *const hvpm_reply) -> u64;
     pub fn hvpm_read_msr(machine: *mut hvpm_machine, by: hvpm_caller, msr: u32, reply: *mut hvpm_reply, line: *mut c_char, line_size: usize) -> u32;
     pub fn hvpm_read_msr_value(machine: *mut hvpm_machine, by: hvpm_caller, msr: u32, value: *mut u64, reply: *mut hvpm_reply, line: *mut c_char, line_size: usize) -> u32;
@@ -293,25 +329,29 @@ unsafe extern "C" {
     pub fn hvpm_peek_connection(machine: *const hvpm_machine, partition: u64, id: u32, out: *mut hvpm_connection) -> u32;
     pub fn hvpm_child_after(machine: *const hvpm_machine, parent: u64, previous: u64, child: *mut u64) -> u32;
     pub fn hvpm_page_owner(machine: *const hvpm_machine, page: u64, owner: *mut u64) -> u32;
+    pub fn hvpm_vp_after(machine: *const hvpm_machine, partition: u64, previous: u32, vp: *mut u32) -> u32;
+    pub fn hvpm_port_after(machine: *const hvpm_machine, partition: u64, previous: u32, id: *mut u32) -> u32;
+    pub fn hvpm_connection_after(machine: *const hvpm_machine, partition: u64, previous: u32, id: *mut u32) -> u32;
+    pub fn hvpm_page_after(machine: *const hvpm_machine, partition: u64, previous: u64, run: *mut hvpm_page_run) -> u32;
     pub fn hvpm_features(machine: *const hvpm_machine, partition: u64, eax_to_edx: *mut u32) -> u32;
     pub fn hvpm_table(machine: *const hvpm_machine, text: *mut c_char, text_size: usize, len: *mut usize) -> u32;
+    pub fn hvpm_explain(machine: *const hvpm_machine, by: hvpm_caller, registers: *const hvpm_registers, input: *const c_void, input_len: usize, reply: *const hvpm_reply, text: *mut c_char, text_size: usize, len: *mut usize) -> u32;
+    pub fn hvpm_explain_access(machine: *const hvpm_machine, by: hvpm_caller, access: u32, number: u32, value: u64, reply: *const hvpm_reply, text: *mut c_char, text_size: usize, len: *mut usize) -> u32;
     pub fn hvpm_is_msr(msr: u32) -> bool;
     pub fn hvpm_is_call(code: u16) -> bool;
+    pub fn hvpm_record_free(record: *mut hvpm_record);
     pub fn hvpm_hypercall_line(by: hvpm_caller, registers: *const hvpm_registers, input: *const c_void, input_len: usize, text: *mut c_char, text_size: usize, len: *mut usize) -> u32;
     pub fn hvpm_access_line(by: hvpm_caller, access: u32, number: u32, value: u64, text: *mut c_char, text_size: usize, len: *mut usize) -> u32;
+    pub fn hvpm_version_number() -> u32;
     pub fn hvpm_version() -> *const c_char;
     pub fn hvpm_status_name(status: u32) -> *const c_char;
     pub fn hvpm_hv_status_name(status: u32) -> *const c_char;
     pub fn hvpm_rule_name(rule: u32) -> *const c_char;
     pub fn hvpm_rule_sentence(rule: u32) -> *const c_char;
-    pub fn hvpm_pages_make(machine: *mut hvpm_machine, pages: *mut hvpm_pages, event: u32, number: u32, value: u64, reply: *mut hvpm_reply) -> u32;
     pub fn hvpm_pages_before(machine: *mut hvpm_machine, pages: *mut hvpm_pages) -> u32;
-    pub fn hvpm_pages_show(machine: *mut hvpm_machine, pages: *mut hvpm_pages, sints: u32) -> u32;
-    pub fn hvpm_pages_flag(machine: *mut hvpm_machine, pages: *mut hvpm_pages, sint: u32, flag: u32) -> u32;
     pub fn hvpm_pages_after(machine: *mut hvpm_machine, pages: *mut hvpm_pages, effect: *const hvpm_effect) -> u32;
     pub fn hvpm_pages_move(machine: *mut hvpm_machine, pages: *mut hvpm_pages, messages: *mut c_void, flags: *mut c_void) -> u32;
     pub fn hvpm_pages_vector(machine: *mut hvpm_machine, pages: *mut hvpm_pages, vector: *mut u8) -> u32;
-    pub fn hvpm_guest_pair(high: u64, low: u64) -> u64;
     pub fn hvpm_guest_call(cpu: *const hvpm_guest_cpu, call: *mut hvpm_registers) -> bool;
     pub fn hvpm_guest_return(cpu: *mut hvpm_guest_cpu, result: u64);
     pub fn hvpm_guest_again(cpu: *mut hvpm_guest_cpu, call: *const hvpm_registers);
@@ -321,7 +361,9 @@ unsafe extern "C" {
     pub fn hvpm_guest_privilege(msr: u32) -> u64;
     pub fn hvpm_guest_may(mask: u64, msr: u32) -> bool;
     pub fn hvpm_guest_read_msr(guest: *const hvpm_guest, vp: u32, mask: u64, msr: u32, value: *mut u64) -> u32;
-    pub fn hvpm_guest_move_code(guest: *mut hvpm_guest, value: u64, is_memory: bool) -> u32;
     pub fn hvpm_guest_write_msr(guest: *mut hvpm_guest, vp: u32, mask: u64, msr: u32, value: u64, is_memory: bool) -> u32;
-    pub fn hvpm_guest_cpuid(leaf: u32, mask: u64, eax_to_edx: *mut u32) -> bool;
+    pub fn hvpm_guest_cpuid(leaf: u32, mask: u64, served: u32, eax_to_edx: *mut u32) -> bool;
+    pub fn hvpm_guest_tsc_scale(frequency: u64) -> u64;
+    pub fn hvpm_guest_reference_time(tsc: u64, scale: u64, offset: i64) -> u64;
+    pub fn hvpm_guest_tsc_page(sequence: u32, scale: u64, offset: i64, page: *mut u8);
 }

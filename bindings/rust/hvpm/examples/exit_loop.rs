@@ -43,7 +43,7 @@ struct Page([AtomicU8; 4096]);
 
 /// A processor: its pages, and the vectors that were injected.
 struct Processor {
-    pages: Pages<'static>,
+    pages: Pages,
     injected: Vec<u8>,
 }
 

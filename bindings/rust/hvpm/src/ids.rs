@@ -47,6 +47,7 @@ pub struct Caller {
 
 impl Caller {
     /// Returns the processor with this index in the partition with this id.
+    #[must_use]
     pub const fn new(partition: u64, vp: u32) -> Caller {
         Caller { partition: PartitionId(partition), vp: VpIndex(vp) }
     }

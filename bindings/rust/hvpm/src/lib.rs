@@ -35,6 +35,8 @@
 #![deny(unsafe_op_in_unsafe_fn, missing_docs)]
 
 extern crate alloc;
+#[cfg(feature = "std")]
+extern crate std;
 
 mod calls;
 mod effect;
@@ -48,14 +50,17 @@ mod numbers;
 pub mod pages;
 mod reply;
 mod status;
+#[cfg(feature = "std")]
+pub mod testing;
 
 pub use calls::{Balance, Connection, Port, PortType, Property, VpRegister};
 pub use effect::{Effect, FlagChange, Synic};
+pub use guest::Registers;
 pub use ids::{Caller, ConnectionId, PartitionId, PortId, Sint, VpIndex};
-pub use lines::{Access, access_line, boot_line, hypercall_line};
-pub use looks::{Life, Partition, is_call, is_msr};
-pub use machine::{Config, Machine, Registers};
-pub use names::{hv_status_name, rule_name, rule_sentence, status_name, version};
+pub use lines::{Access, Record, access_line, boot_line, hypercall_line};
+pub use looks::{Life, PageRun, Partition, is_call, is_msr};
+pub use machine::{Config, Machine};
+pub use names::{hv_status_name, rule_name, rule_sentence, status_name, version, version_number};
 pub use numbers::{call, hv_status, msr, privilege, register, rule};
 pub use reply::{Answer, HvStatus, Made, Output, Reply, Rule, Run, next};
 pub use status::Status;

@@ -1,6 +1,8 @@
 //! Recording: events as lines of a script, which `hvpm run SCRIPT --serial` repeats.
 
-use crate::{Caller, Config, Registers, Sint, Status};
+use crate::{Caller, Config, Machine, Registers, Sint, Status};
+use alloc::borrow::ToOwned;
+use alloc::boxed::Box;
 use alloc::format;
 use alloc::string::String;
 use alloc::vec::Vec;
@@ -28,7 +30,7 @@ pub enum Access {
 
 impl Access {
     /// The access as the library has it: which one it is, the number of the MSR or SINT, and a value.
-    fn numbers(self) -> (u32, u32, u64) {
+    pub(crate) fn numbers(self) -> (u32, u32, u64) {
         match self {
             Access::ReadMsr(msr) => (sys::HVPM_READ_MSR, msr, 0),
             Access::WriteMsr(msr, value) => (sys::HVPM_WRITE_MSR, msr, value),
@@ -37,20 +39,6 @@ impl Access {
             Access::ReadFlags(sint) => (sys::HVPM_READ_FLAGS, sint.0.into(), 0),
             Access::ClearFlag(sint, flag) => (sys::HVPM_CLEAR_FLAG, sint.0.into(), flag.into()),
             Access::TakeInterrupt => (sys::HVPM_TAKE_INTERRUPT, 0, 0),
-        }
-    }
-
-    /// The access that the library has as these numbers.
-    pub(crate) fn of(access: u32, number: u32, value: u64) -> Access {
-        let sint = Sint(number as u8);
-        match access {
-            sys::HVPM_READ_MSR => Access::ReadMsr(number),
-            sys::HVPM_WRITE_MSR => Access::WriteMsr(number, value),
-            sys::HVPM_READ_SLOT => Access::ReadSlot(sint),
-            sys::HVPM_CLEAR_SLOT => Access::ClearSlot(sint),
-            sys::HVPM_READ_FLAGS => Access::ReadFlags(sint),
-            sys::HVPM_CLEAR_FLAG => Access::ClearFlag(sint, value as u16),
-            _ => Access::TakeInterrupt,
         }
     }
 }
@@ -63,7 +51,8 @@ pub(crate) fn text(call: impl Fn(*mut c_char, usize, *mut usize) -> u32) -> Resu
             sys::HVPM_STATUS_OK => break,
             sys::HVPM_STATUS_SHORT => bytes.resize(len, 0),
             sys::HVPM_STATUS_MEMORY => return Err(Status::Memory),
-            // No pointer is null, no handle is empty, and an `Access` exists.
+            // No pointer is null, no handle is empty, and an `Access` exists. Where a reply is explained, it may
+            // be that of another kind of event.
             status => unreachable!("status {status}"),
         }
     }
@@ -71,15 +60,69 @@ pub(crate) fn text(call: impl Fn(*mut c_char, usize, *mut usize) -> u32) -> Resu
     Ok(String::from_utf8(bytes).expect("a text is ASCII"))
 }
 
+/// What a [recorded](Machine::boot_recorded) machine did since the record was last taken.
+#[derive(Clone, Debug, Default, PartialEq, Eq)]
+#[non_exhaustive]
+pub struct Record {
+    /// The boot and the events as lines of a script, which `hvpm run SCRIPT --serial` repeats.
+    pub script: String,
+    /// The audit lines of the events.
+    pub audit: String,
+    /// Whether the record ended before the machine's last event: memory ran out, or another event came between
+    /// two elements of a rep call, which a script has in one line.
+    pub is_cut: bool,
+}
+
+/// Copies a text of a record, and empties it.
+fn take(text: &mut sys::hvpm_text) -> String {
+    let len = core::mem::take(&mut text.len);
+    if len == 0 {
+        return String::new();
+    }
+    // SAFETY: the library wrote as many bytes there, and nobody writes them while the machine is borrowed.
+    let bytes = unsafe { core::slice::from_raw_parts(text.at.cast::<u8>(), len) };
+    core::str::from_utf8(bytes).expect("a record is ASCII").to_owned()
+}
+
+impl Machine {
+    /// Boots a machine like [`Machine::boot`], which records its boot and each of its events: hypercalls, lists,
+    /// accesses, and what [`Pages`](crate::pages::Pages) do in a guest's place. Take the record by
+    /// [`Machine::take_record`], from time to time or at the end.
+    pub fn boot_recorded(config: Config) -> Result<Machine, Status> {
+        // SAFETY: zeros are null pointers and numbers. The header asks for them.
+        let record: Box<sys::hvpm_record> = Box::new(unsafe { core::mem::zeroed() });
+        Machine::boot_with(config, Box::into_raw(record))
+    }
+
+    /// Takes what was recorded since the last call. It is empty unless the machine is
+    /// [recorded](Machine::boot_recorded).
+    ///
+    /// All scripts in order, and all audits in order with a last line `events N`, are what
+    /// `hvpm run SCRIPT --serial` reads and prints.
+    #[must_use]
+    pub fn take_record(&mut self) -> Record {
+        // SAFETY: the record lives as long as the machine, which is borrowed alone.
+        match unsafe { self.handle.record.as_mut() } {
+            None => Record::default(),
+            Some(record) => Record {
+                script: take(&mut record.script),
+                audit: take(&mut record.audit),
+                is_cut: record.is_cut,
+            },
+        }
+    }
+}
+
 /// Returns the first line of a script, which boots a machine, with its line feed. `limit` is at least the
 /// number of events.
+#[must_use]
 pub fn boot_line(config: Config, limit: u32) -> String {
     let Config { mask, pages, pool, vps } = config;
     format!("boot {pages} {pool} {vps} {mask:#x} {limit}\n")
 }
 
-/// Returns the line of a hypercall, with its line feed. The line has the first 4,096 bytes of the input: no
-/// input list is longer.
+/// Returns the line of a hypercall, with its line feed. The line has the bytes of the call's input list, the
+/// first 4,096 of them: no list that rule P6 lets pass is longer.
 ///
 /// A rep call is one line, which executes all of its elements: record only the first.
 pub fn hypercall_line(by: Caller, registers: Registers, input: &[u8]) -> Result<String, Status> {

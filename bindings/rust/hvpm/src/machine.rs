@@ -2,7 +2,8 @@
 
 use crate::reply::{Output, Reply, Run, line_of};
 use crate::status::{Status, done};
-use crate::{Caller, Sint};
+use crate::{Caller, Registers, Sint};
+use alloc::boxed::Box;
 use core::ffi::c_char;
 use core::ptr::null_mut;
 use hvpm_sys as sys;
@@ -20,17 +21,6 @@ pub struct Config {
     pub vps: u32,
 }
 
-/// The registers of a hypercall.
-#[derive(Clone, Copy, Debug, Default, PartialEq, Eq)]
-pub struct Registers {
-    /// The input value.
-    pub rcx: u64,
-    /// The address of the input list, or the first 8 bytes of a fast call's input.
-    pub rdx: u64,
-    /// The address of the output list, or the second 8 bytes of a fast call's input.
-    pub r8: u64,
-}
-
 impl Registers {
     pub(crate) fn raw(self) -> sys::hvpm_registers {
         sys::hvpm_registers { rcx: self.rcx, rdx: self.rdx, r8: self.r8 }
@@ -40,42 +30,54 @@ impl Registers {
 /// A machine: all partitions with their pages, processors, ports, connections and messages. Dropping it frees
 /// its memory.
 ///
-/// A machine may move between threads. To share one, put it behind a lock, because not even a look may run
-/// beside another call:
-///
-/// ```compile_fail
-/// fn is_sync<T: Sync>() {}
-/// is_sync::<hvpm::Machine>();
-/// ```
+/// A machine may move between threads, and threads may look at it at once by a `&Machine`. An event needs a
+/// `&mut Machine`: to share a machine that takes events, put it behind a lock, such as a `RwLock`.
+#[derive(Debug)]
 pub struct Machine {
     pub(crate) handle: sys::hvpm_machine,
     is_audited: bool,
 }
 
-// SAFETY: the library keeps nothing of the thread that calls it. Each function here borrows the machine for
-// itself, or looks at it by a `&Machine`, which stays with one thread: there is no `Sync`.
+// SAFETY: the library keeps nothing of the thread that calls it, and has no variable of its own.
 unsafe impl Send for Machine {}
+
+// SAFETY: a `&Machine` gives looks and the count of events alone. A look of the library writes neither the
+// handle nor what that leads to, as the header promises; `tests/embed/side_by_side.c` runs looks of several
+// threads over memory that is closed to writes. Whatever writes takes a `&mut Machine`.
+unsafe impl Sync for Machine {}
 
 impl Machine {
     /// Boots a machine. The root partition has id 1 and is Active. It has the pages, processors and
     /// privileges of `config`. Returns [`Status::Pages`], [`Status::Pool`] or [`Status::Vps`] if `config`
     /// isn't valid.
+    ///
+    /// # Panics
+    ///
+    /// If the library isn't of the version that the crate declares.
     pub fn boot(config: Config) -> Result<Machine, Status> {
+        Machine::boot_with(config, null_mut())
+    }
+
+    /// Boots a machine with a record, which it owns, or without one.
+    pub(crate) fn boot_with(config: Config, record: *mut sys::hvpm_record) -> Result<Machine, Status> {
+        crate::names::check_version();
         let Config { mask, pages, pool, vps } = config;
-        let handle = sys::hvpm_machine { live: false, events: 0, at: null_mut() };
+        let handle = sys::hvpm_machine { live: false, events: 0, at: null_mut(), record };
         let mut machine = Machine { handle, is_audited: false };
-        // SAFETY: the handle is empty, and both pointers lead to values of their types.
+        // SAFETY: the handle is empty, and all pointers lead to values of their types.
         done(unsafe { sys::hvpm_boot(&mut machine.handle, &sys::hvpm_config { mask, pages, pool, vps }) })?;
         Ok(machine)
     }
 
     /// Returns the machine with an audit line in each reply from now on. A line takes as long as the event.
+    #[must_use]
     pub fn audited(mut self) -> Machine {
         self.is_audited = true;
         self
     }
 
     /// Returns the number of events so far, served or refused.
+    #[must_use]
     pub fn events(&self) -> u64 {
         self.handle.events
     }
@@ -141,17 +143,31 @@ impl Machine {
         input: &[u8],
         outputs: &'o mut [u8],
     ) -> Result<Run<'o>, Status> {
+        self.run_at_most(by, registers, input, u32::MAX, outputs)
+    }
+
+    /// Executes a hypercall like [`Machine::run`], but also stops after `most` elements, so that a lock around it
+    /// is held for a bounded time. Returns [`Status::Short`] if `most` is 0.
+    pub fn run_at_most<'o>(
+        &mut self,
+        by: Caller,
+        registers: Registers,
+        input: &[u8],
+        most: u32,
+        outputs: &'o mut [u8],
+    ) -> Result<Run<'o>, Status> {
         let registers = registers.raw();
         let mut reply = Reply::new();
         let mut run = sys::hvpm_run_done { events: 0, output_len: 0 };
         // SAFETY: as in `hypercall`.
         done(unsafe {
-            sys::hvpm_run(
+            sys::hvpm_run_at_most(
                 &mut self.handle,
                 by.raw(),
                 &registers,
                 input.as_ptr().cast(),
                 input.len(),
+                most,
                 &mut reply.raw,
                 outputs.as_mut_ptr().cast(),
                 outputs.len(),
@@ -222,6 +238,13 @@ impl Drop for Machine {
     fn drop(&mut self) {
         // SAFETY: as in `hypercall`; the library leaves an empty handle as it is.
         unsafe { sys::hvpm_destroy(&mut self.handle) }
+        if !self.handle.record.is_null() {
+            // SAFETY: `boot_recorded` made the record of a box. The library has freed its texts.
+            drop(unsafe {
+                sys::hvpm_record_free(self.handle.record);
+                Box::from_raw(self.handle.record)
+            });
+        }
     }
 }
 

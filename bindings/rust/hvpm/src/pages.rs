@@ -17,66 +17,47 @@
 //! # Ok::<(), Status>(())
 //! ```
 
-use crate::reply::{Reply, line_of};
+use crate::reply::Reply;
 use crate::status::{Status, done};
-use crate::{Access, Caller, Machine};
-use alloc::boxed::Box;
-use core::ffi::{c_char, c_void};
+use crate::{Caller, Machine};
 use core::ptr::{NonNull, null_mut};
-use core::slice;
 use hvpm_sys as sys;
 
-/// An event that [`Pages`] made in the guest's place. In the audit it is the guest's own.
-pub struct Record<'a> {
-    /// The guest's processor.
-    pub by: Caller,
-    /// The access.
-    pub access: Access,
-    /// The reply, with the audit line.
-    pub reply: &'a Reply,
-}
-
-type Recorder<'r> = Box<dyn FnMut(Record<'_>) + Send + 'r>;
-
-/// The pages of a processor. It starts without any.
-pub struct Pages<'r> {
+/// The pages of a processor. It starts without any. In the audit and in a [record](Machine::take_record) the
+/// events that are made in the guest's place are the guest's own.
+#[derive(Debug)]
+pub struct Pages {
     raw: sys::hvpm_pages,
-    record: Option<Recorder<'r>>,
 }
 
 // SAFETY: the pointers lead to the guest's memory, which any thread may use, as `move` demands.
-unsafe impl Send for Pages<'_> {}
+unsafe impl Send for Pages {}
 
-impl<'r> Pages<'r> {
+impl Pages {
     /// Creates the pages of a processor, which has none yet.
-    pub fn new(of: Caller) -> Pages<'r> {
-        // SAFETY: zeros are null pointers, numbers, and no function. The header asks for them.
+    #[must_use]
+    pub fn new(of: Caller) -> Pages {
+        // SAFETY: zeros are null pointers and numbers. The header asks for them.
         let mut raw: sys::hvpm_pages = unsafe { core::mem::zeroed() };
         raw.of = of.raw();
-        Pages { raw, record: None }
-    }
-
-    /// Like [`Pages::new`], and calls `record` for each event that is made in the guest's place. `record`
-    /// must not panic: a panic there aborts the process.
-    pub fn recorded(of: Caller, record: impl FnMut(Record<'_>) + Send + 'r) -> Pages<'r> {
-        let mut pages = Pages::new(of);
-        pages.raw.record = Some(tell);
-        pages.record = Some(Box::new(record));
-        pages
+        Pages { raw }
     }
 
     /// Returns the processor.
+    #[must_use]
     pub fn of(&self) -> Caller {
         Caller::of(self.raw.of)
     }
 
     /// Returns the SINTs whose message is in the page: bit s is 1 if the message that the machine shows at
     /// SINT s is there.
+    #[must_use]
     pub fn shown(&self) -> u16 {
         self.raw.shown
     }
 
     /// Returns whether a message left its slot since the last call: a post that P23 refused may be repeated.
+    #[must_use]
     pub fn take_freed(&mut self) -> bool {
         core::mem::replace(&mut self.raw.freed, false)
     }
@@ -87,8 +68,6 @@ impl<'r> Pages<'r> {
         machine: &mut Machine,
         call: impl FnOnce(*mut sys::hvpm_machine, *mut sys::hvpm_pages) -> u32,
     ) -> Result<(), Status> {
-        // The value may have moved since the last call.
-        self.raw.context = self.record.as_mut().map_or(null_mut(), |record| (&raw mut *record).cast());
         done(call(&mut machine.handle, &mut self.raw))
     }
 
@@ -135,22 +114,4 @@ impl<'r> Pages<'r> {
         self.keep(machine, |machine, pages| unsafe { sys::hvpm_pages_vector(machine, pages, &mut vector) })?;
         Ok((vector != 0).then_some(vector))
     }
-}
-
-/// Passes an event from the library to the recorder at `context`.
-unsafe extern "C" fn tell(
-    context: *mut c_void,
-    by: sys::hvpm_caller,
-    event: u32,
-    number: u32,
-    value: u64,
-    reply: *const sys::hvpm_reply,
-    line: *const c_char,
-) {
-    // SAFETY: `keep` gave the recorder, which is borrowed for this call. The library gives a reply, and a
-    // line of as many bytes as the reply says.
-    let (record, raw) = unsafe { (&mut *context.cast::<Recorder<'_>>(), *reply) };
-    let line = unsafe { slice::from_raw_parts(line.cast::<u8>(), raw.line_len as usize) };
-    let reply = Reply { raw, line: line_of(line) };
-    record(Record { by: Caller::of(by), access: Access::of(event, number, value), reply: &reply });
 }

@@ -86,6 +86,7 @@ impl Reply {
     }
 
     /// Returns how the event was answered.
+    #[must_use]
     pub fn answer(&self) -> Answer {
         let rule = Rule(self.raw.rule);
         match self.raw.kind {
@@ -97,11 +98,13 @@ impl Reply {
     }
 
     /// Returns whether the event was served.
+    #[must_use]
     pub fn is_served(&self) -> bool {
         matches!(self.answer(), Answer::Served | Answer::More { .. })
     }
 
     /// Returns the rule that refuses the event, or `None` if it was served.
+    #[must_use]
     pub fn rule(&self) -> Option<Rule> {
         match self.answer() {
             Answer::Denied { rule } | Answer::Fault { rule } => Some(rule),
@@ -110,6 +113,7 @@ impl Reply {
     }
 
     /// Returns the status of a hypercall. For an access it is [`HvStatus`] 0, or `None` for a fault.
+    #[must_use]
     pub fn status(&self) -> Option<HvStatus> {
         match self.answer() {
             Answer::Fault { .. } => None,
@@ -118,22 +122,26 @@ impl Reply {
     }
 
     /// Returns the result value of a hypercall, for RAX; 0 for an access.
+    #[must_use]
     pub fn result(&self) -> u64 {
         self.raw.result
     }
 
     /// Returns the output of the event, at most 256 bytes.
+    #[must_use]
     pub fn output(&self) -> &[u8] {
         &self.raw.output[..self.raw.output_len as usize]
     }
 
     /// Returns the event's audit line, with its line feed. It is empty unless the machine is
     /// [audited](crate::Machine::audited), and for [`crate::Machine::run`].
+    #[must_use]
     pub fn line(&self) -> &str {
         &self.line
     }
 
     /// Returns what the event changed: messages, event flags, vectors, pages and processors.
+    #[must_use]
     pub fn effect(&self) -> Effect {
         Effect::of(&self.raw.effect)
     }
@@ -152,6 +160,7 @@ impl fmt::Debug for Reply {
 
 /// The reply to an event whose output is a value.
 #[derive(Clone, Debug)]
+#[non_exhaustive]
 pub struct Output<T> {
     /// The reply.
     pub reply: Reply,
@@ -161,6 +170,7 @@ pub struct Output<T> {
 
 /// How far [`crate::Machine::run`] got.
 #[derive(Clone, Debug)]
+#[non_exhaustive]
 pub struct Run<'o> {
     /// The reply to the last element executed, without an audit line.
     pub reply: Reply,
@@ -172,6 +182,7 @@ pub struct Run<'o> {
 
 /// How far a call of a list got, such as [`crate::Machine::deposit_pages`].
 #[derive(Clone, Debug)]
+#[non_exhaustive]
 pub struct Made {
     /// The reply to the last element executed, without an audit line. If it is [`Answer::Denied`], its rule
     /// refused the element behind those that were served.
@@ -182,6 +193,7 @@ pub struct Made {
 }
 
 /// Returns RCX for the next element, after a reply that is [`Answer::More`].
+#[must_use]
 pub fn next(rcx: u64, reply: &Reply) -> u64 {
     // SAFETY: the reply is a whole one, and is only read.
     unsafe { sys::hvpm_next(rcx, &reply.raw) }

@@ -5,8 +5,9 @@ use hvpm_sys as sys;
 
 /// Why a function failed. No event happened and nothing changed.
 #[derive(Clone, Copy, Debug, PartialEq, Eq, Hash)]
+#[non_exhaustive]
 pub enum Status {
-    /// Run: the buffer for outputs has fewer than 16 bytes.
+    /// Run: the buffer for outputs has fewer than 16 bytes, or no element may be executed.
     Short,
     /// The machine takes no more events.
     UsedUp,
@@ -22,6 +23,7 @@ pub enum Status {
 
 impl Status {
     /// Returns the number of the status in C.
+    #[must_use]
     pub fn number(self) -> u32 {
         match self {
             Status::Short => sys::HVPM_STATUS_SHORT,
@@ -52,7 +54,7 @@ pub(crate) fn done(status: u32) -> Result<(), Status> {
 impl fmt::Display for Status {
     fn fmt(&self, f: &mut fmt::Formatter<'_>) -> fmt::Result {
         f.write_str(match self {
-            Status::Short => "the buffer for outputs is too short",
+            Status::Short => "the buffer for outputs is too short, or the bound is 0",
             Status::UsedUp => "the machine takes no more events",
             Status::Memory => "out of memory",
             Status::Pages => "boot refused: pages",

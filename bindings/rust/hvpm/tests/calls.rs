@@ -91,7 +91,7 @@ fn a_life_is_that_of_the_script() {
     told.gives(None, |machine| machine.get_partition_id(Caller::new(2, 0)));
     told.take(|machine| machine.delete_port(ROOT, PartitionId(1), PortId(5)));
     told.balance(PartitionId(1), 28, 4);
-    told.is(include_str!("../../../../examples/life.audit"));
+    told.is(include_str!("life.audit"));
 }
 
 /// The child posts, and the root takes the message.
@@ -138,7 +138,7 @@ fn the_other_calls_have_the_audit_of_c() {
     told.take(|machine| machine.disconnect_port(ROOT, SELF, ConnectionId(8)));
     told.take(|machine| machine.delete_vp(ROOT, SELF, VpIndex(1)));
     told.balance(SELF, 5, 9);
-    told.is(include_str!("../../../../tests/embed/typed.out"));
+    told.is(include_str!("typed.out"));
 }
 
 /// A second processor of the root, and registers of it.

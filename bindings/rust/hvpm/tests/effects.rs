@@ -90,7 +90,7 @@ fn a_run_ends_at_an_effect_that_is_no_page() -> Result<(), Status> {
         input[at..at + 3].copy_from_slice(&[name, 0, 0x0A]);
         input[at + 16] = 0x40;
     }
-    let call = Registers { rcx: 3 << 32 | 0x51, rdx: 0, r8: 0 };
+    let call = Registers { rcx: (3 << 32) | 0x51, rdx: 0, r8: 0 };
     let mut outputs = [0; 16];
     let run = machine.run(ROOT, call, &input, &mut outputs)?;
     assert_eq!((run.events, run.reply.answer()), (2, Answer::More { next: 2 }));

@@ -1,7 +1,8 @@
 //! The module `guest` beside the functions of hvpm_guest.h, which the library has: equal inputs have equal
 //! answers.
 
-use hvpm::guest::{Access, Call, Cpu, Guest, cpuid, may, privilege};
+use hvpm::Registers;
+use hvpm::guest::{Access, Cpu, Guest, cpuid, may, privilege, reference_time, tsc_page, tsc_scale};
 use hvpm_sys as sys;
 
 const MSRS: core::ops::Range<u32> = 0x3FFF_FFF0..0x4000_0200;
@@ -15,7 +16,7 @@ fn is_same(cpu: &Cpu, raw: &sys::hvpm_guest_cpu) -> bool {
     format!("{:?}", raw_cpu(cpu)) == format!("{raw:?}")
 }
 
-fn raw_call(call: &Call) -> sys::hvpm_registers {
+fn raw_call(call: &Registers) -> sys::hvpm_registers {
     sys::hvpm_registers { rcx: call.rcx, rdx: call.rdx, r8: call.r8 }
 }
 
@@ -34,13 +35,13 @@ fn calls_are_read_and_ended_as_in_c() {
     let mut next = numbers(1);
     for case in 0..1000 {
         let [rax, rbx, rcx, rdx, rsi, rdi, r8] = [(); 7].map(|()| next());
-        let (is_64_bit, is_protected, cpl) = (case & 1 == 1, case & 2 == 2, (case >> 2 & 3) as u8);
+        let (is_64_bit, is_protected, cpl) = (case & 1 == 1, case & 2 == 2, ((case >> 2) & 3) as u8);
         let cpu = Cpu { rax, rbx, rcx, rdx, rsi, rdi, r8, is_64_bit, is_protected, cpl };
         let raw = raw_cpu(&cpu);
         let mut call = sys::hvpm_registers { rcx: 0, rdx: 0, r8: 0 };
         // SAFETY: each pointer leads to a value of its type.
         let may_call = unsafe { sys::hvpm_guest_call(&raw, &mut call) };
-        let read = may_call.then_some(Call { rcx: call.rcx, rdx: call.rdx, r8: call.r8 });
+        let read = may_call.then_some(Registers { rcx: call.rcx, rdx: call.rdx, r8: call.r8 });
         assert_eq!(cpu.call(), read, "{cpu:?}");
 
         let (mut ended, mut raw_ended) = (cpu, raw);
@@ -50,7 +51,7 @@ fn calls_are_read_and_ended_as_in_c() {
         assert!(is_same(&ended, &raw_ended), "{ended:?}");
 
         let (mut again, mut raw_again) = (cpu, raw);
-        let call = Call { rcx: rdi, rdx: 0, r8: 0 };
+        let call = Registers { rcx: rdi, rdx: 0, r8: 0 };
         again.again(&call);
         // SAFETY: as above.
         unsafe { sys::hvpm_guest_again(&mut raw_again, &raw_call(&call)) };
@@ -63,7 +64,7 @@ fn calls_have_the_lists_of_c() {
     let mut next = numbers(2);
     for code in 0..=0xFFFF {
         for fast in [0, 1 << 16] {
-            let call = Call { rcx: next() & !0x1_FFFF | fast | code, rdx: next(), r8: next() };
+            let call = Registers { rcx: next() & !0x1_FFFF | fast | code, rdx: next(), r8: next() };
             let raw = raw_call(&call);
             // SAFETY: the pointer leads to a value of its type.
             let (input, output, result) = unsafe {
@@ -108,11 +109,12 @@ fn msrs_are_read_and_written_as_in_c() {
     let mut next = numbers(3);
     for _ in 0..200 {
         let mut guest = Guest::default();
-        let mut raw = sys::hvpm_guest { os_id: 0, hypercall: 0, assist: [0; 64] };
+        let mut raw = sys::hvpm_guest { os_id: 0, hypercall: 0, assist: [0; 64], tsc_page: 0 };
         for _ in 0..20 {
             let (vp, mask) = (next() as u32 % 64, if next() & 7 == 0 { next() } else { u64::MAX });
-            let msr = [0x4000_0000, 0x4000_0001, 0x4000_0073, MSRS.start + next() as u32 % 0x210]
-                [next() as usize & 3];
+            let msr =
+                [0x4000_0000, 0x4000_0001, 0x4000_0073, 0x4000_0021, MSRS.start + next() as u32 % 0x210]
+                    [next() as usize % 5];
             let (value, is_memory) = ((next() & 3) % 3 * (next() & 0xFFFF_F003), next() & 3 != 0);
             // SAFETY: the pointer leads to a value of its type.
             let answer = unsafe { sys::hvpm_guest_write_msr(&mut raw, vp, mask, msr, value, is_memory) };
@@ -130,12 +132,31 @@ fn msrs_are_read_and_written_as_in_c() {
 
 #[test]
 fn cpuid_has_the_leaves_of_c() {
+    let mut next = numbers(4);
     for leaf in (0x3FFF_FFF0..0x4000_0010).chain([0, 1, u32::MAX]) {
         for mask in [0, 0xf7_0000_0044, u64::MAX] {
             let mut registers = [0; 4];
             // SAFETY: the pointer leads to four numbers.
-            let is_leaf = unsafe { sys::hvpm_guest_cpuid(leaf, mask, registers.as_mut_ptr()) };
-            assert_eq!(cpuid(leaf, mask), is_leaf.then_some(registers), "{leaf:#x}");
+            let served = next() as u32;
+            let is_leaf = unsafe { sys::hvpm_guest_cpuid(leaf, mask, served, registers.as_mut_ptr()) };
+            assert_eq!(cpuid(leaf, mask, served), is_leaf.then_some(registers), "{leaf:#x}");
         }
+    }
+}
+
+#[test]
+fn reference_time_is_that_of_c() {
+    let mut next = numbers(5);
+    for _ in 0..10_000 {
+        let (frequency, tsc, offset) = (next() >> (next() % 40), next(), next() as i64);
+        let (scale, sequence) = (tsc_scale(frequency), next() as u32);
+        let mut page = [0; 24];
+        // SAFETY: the pointer leads to as many bytes as the function writes.
+        let (raw_scale, time) = unsafe {
+            sys::hvpm_guest_tsc_page(sequence, scale, offset, page.as_mut_ptr());
+            (sys::hvpm_guest_tsc_scale(frequency), sys::hvpm_guest_reference_time(tsc, scale, offset))
+        };
+        assert_eq!((raw_scale, time), (scale, reference_time(tsc, scale, offset)), "{frequency} {tsc}");
+        assert_eq!(page, tsc_page(sequence, scale, offset));
     }
 }

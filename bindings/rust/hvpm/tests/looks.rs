@@ -4,7 +4,7 @@ mod common;
 
 use common::{CONFIG, ROOT, set_up, shown};
 use hvpm::{Caller, Connection, ConnectionId, Life, Machine, Partition, PartitionId, Port, PortId, PortType};
-use hvpm::{Sint, Status, VpIndex, is_call, is_msr};
+use hvpm::{PageRun, Sint, Status, VpIndex, is_call, is_msr};
 
 const NOBODY: Caller = Caller::new(1, 1);
 
@@ -106,6 +106,44 @@ fn children_and_owners_are_found() -> Result<(), Status> {
 }
 
 #[test]
+fn a_partition_lists_what_it_has() -> Result<(), Status> {
+    let mut machine = set_up();
+    let root = PartitionId::ROOT;
+    assert_eq!(machine.vps(root).collect::<Vec<_>>(), [VpIndex(0)]);
+    assert_eq!(machine.ports(root).collect::<Vec<_>>(), [PortId(2), PortId(3)]);
+    assert_eq!(machine.connections(root).collect::<Vec<_>>(), [ConnectionId(2), ConnectionId(3)]);
+    let runs = |machine: &Machine, id| machine.page_runs(id).collect::<Vec<_>>();
+    let run = |page, count, pooled| PageRun { page, count, pooled };
+    assert_eq!(runs(&machine, root), [run(0, 12, true), run(12, 20, false)]);
+    assert_eq!(run(12, 20, false).pages(), 12..32);
+    let child = machine.create_partition(ROOT, 0)?.value.expect("it is served");
+    machine.deposit_pages(ROOT, child, &[20, 21, 30])?;
+    assert_eq!(runs(&machine, child), [run(20, 2, true), run(30, 1, true)]);
+    assert_eq!(machine.page_after(root, Some(15)), Some(run(16, 4, false)));
+    assert_eq!(machine.vps(child).count() + machine.ports(child).count(), 0);
+    machine.delete_partition(ROOT, child)?;
+    assert_eq!(runs(&machine, root), [run(0, 12, true), run(12, 20, false)]);
+    assert_eq!(runs(&machine, child), []);
+    Ok(())
+}
+
+#[test]
+fn what_comes_next_is_above() {
+    let machine = set_up();
+    let root = PartitionId::ROOT;
+    assert_eq!(
+        [None, Some(VpIndex(0)), Some(VpIndex::ANY)].map(|vp| machine.vp_after(root, vp)),
+        [Some(VpIndex(0)), None, None]
+    );
+    let after = |id| machine.port_after(root, Some(PortId(id)));
+    assert_eq!([0, 2, 3, u32::MAX].map(after), [Some(PortId(2)), Some(PortId(3)), None, None]);
+    let after = |id| machine.connection_after(root, Some(ConnectionId(id)));
+    assert_eq!([1, 2, 3].map(after), [Some(ConnectionId(2)), Some(ConnectionId(3)), None]);
+    let last = [31, u64::from(u32::MAX), u64::MAX].map(|page| machine.page_after(root, Some(page)));
+    assert_eq!(last, [None; 3]);
+}
+
+#[test]
 fn a_mask_is_features_of_cpuid() {
     let machine = set_up();
     let features = (machine.features(PartitionId(1)), machine.features(PartitionId(2)));
@@ -124,4 +162,24 @@ fn the_table_is_that_of_the_program() {
 fn msrs_and_calls_are_known() {
     assert_eq!([0x4000_0092, 0x4000_0000].map(is_msr), [true, false]);
     assert_eq!([0x96, 0x97].map(is_call), [true, false]);
+}
+
+/// Threads that share a machine look at it at once, while none makes an event.
+#[test]
+fn threads_look_at_once() {
+    let (slot, _) = shown();
+    let machine = std::sync::RwLock::new(set_up());
+    std::thread::scope(|threads| {
+        for _ in 0..4 {
+            threads.spawn(|| {
+                let machine = machine.read().expect("no thread panics");
+                for _ in 0..100 {
+                    assert_eq!(machine.peek_slot(ROOT, Sint(2)), Some(slot));
+                    assert_eq!(machine.peek_partition(PartitionId::ROOT).map(|root| root.ports), Some(2));
+                }
+            });
+        }
+    });
+    let mut machine = machine.into_inner().expect("no thread panics");
+    assert!(machine.clear_slot(ROOT, Sint(2)).expect("it is taken").is_served());
 }

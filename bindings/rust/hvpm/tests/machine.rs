@@ -65,13 +65,13 @@ fn the_highest_vector_is_taken_first() {
 #[test]
 fn a_call_continues_at_the_next_element() -> Result<(), Status> {
     let mut machine = Machine::boot(CONFIG)?.audited();
-    let call = Registers { rcx: 2 << 32 | 0x49, rdx: 0, r8: 8 };
+    let call = Registers { rcx: (2 << 32) | 0x49, rdx: 0, r8: 8 };
     let reply = machine.hypercall(ROOT, call, &[1])?;
     assert_eq!(reply.line(), "1 1.0 call 0000000200000049 more 0000000100000000 0000000000000000\n");
     assert_eq!((reply.answer(), reply.result()), (Answer::More { next: 1 }, 1 << 32));
-    assert_eq!(next(call.rcx, &reply), 1 << 48 | 2 << 32 | 0x49);
+    assert_eq!(next(call.rcx, &reply), (1 << 48) | (2 << 32) | 0x49);
     // The index takes the place of the one before.
-    assert_eq!(next(0xFFF << 48 | call.rcx, &reply), 1 << 48 | 2 << 32 | 0x49);
+    assert_eq!(next((0xFFF << 48) | call.rcx, &reply), (1 << 48) | (2 << 32) | 0x49);
     let reply = machine.hypercall(ROOT, Registers { rcx: next(call.rcx, &reply), ..call }, &[1])?;
     assert_eq!(reply.line(), "2 1.0 call 0001000200000049 ok 0000000200000000 0100000000000000\n");
     assert_eq!((reply.answer(), reply.result()), (Answer::Served, 2 << 32));
@@ -99,7 +99,7 @@ fn a_reply_has_a_status_and_a_rule() -> Result<(), Status> {
     let call = |rcx| Registers { rcx, rdx: 0, r8: 0 };
     let served = machine.hypercall(ROOT, call(0x46), &[])?;
     assert_eq!((served.is_served(), served.status(), served.rule()), (true, Some(HvStatus(0)), None));
-    let more = machine.hypercall(ROOT, call(2 << 32 | 0x49), &[1])?;
+    let more = machine.hypercall(ROOT, call((2 << 32) | 0x49), &[1])?;
     assert_eq!((more.is_served(), more.status(), more.rule()), (true, Some(HvStatus(0)), None));
     let denied = machine.hypercall(ROOT, call(0x97), &[])?;
     assert_eq!(
@@ -118,7 +118,7 @@ fn a_reply_has_a_status_and_a_rule() -> Result<(), Status> {
 #[test]
 fn elements_are_taken_in_a_run() -> Result<(), Status> {
     let mut machine = Machine::boot(CONFIG)?.audited();
-    let call = Registers { rcx: 3 << 32 | 0x49, rdx: 0, r8: 0 };
+    let call = Registers { rcx: (3 << 32) | 0x49, rdx: 0, r8: 0 };
     let mut outputs = [0xA5; 31];
     let run = machine.run(ROOT, call, &[1], &mut outputs)?;
     assert_eq!((run.events, run.reply.answer(), run.reply.line()), (2, Answer::More { next: 2 }, ""));
@@ -128,6 +128,41 @@ fn elements_are_taken_in_a_run() -> Result<(), Status> {
     assert_eq!((run.events, run.reply.answer(), run.reply.result()), (1, Answer::Served, 3 << 32));
     assert_eq!((run.outputs, run.reply.output()), (&bytes::<8>(&[(0, 2)])[..], &bytes::<8>(&[(0, 2)])[..]));
     assert_eq!(machine.run(ROOT, call, &[1], &mut outputs[..15]).err(), Some(Status::Short));
+    assert_eq!(machine.events(), 3);
+    Ok(())
+}
+
+#[test]
+fn a_run_may_be_bounded() -> Result<(), Status> {
+    let mut machine = Machine::boot(CONFIG)?;
+    let mut call = Registers { rcx: (3 << 32) | 0x49, rdx: 0, r8: 0 };
+    let mut outputs = [0xA5; 32];
+    assert_eq!(machine.run_at_most(ROOT, call, &[1], 0, &mut outputs).err(), Some(Status::Short));
+    let run = machine.run_at_most(ROOT, call, &[1], 2, &mut outputs)?;
+    assert_eq!((run.events, run.reply.answer()), (2, Answer::More { next: 2 }));
+    call.rcx = next(call.rcx, &run.reply);
+    let run = machine.run_at_most(ROOT, call, &[1], 2, &mut outputs)?;
+    assert_eq!(
+        (run.events, run.reply.answer(), run.outputs),
+        (1, Answer::Served, &bytes::<8>(&[(0, 2)])[..])
+    );
+    assert_eq!(machine.events(), 3);
+    Ok(())
+}
+
+#[test]
+fn events_are_explained() -> Result<(), Status> {
+    let mut machine = Machine::boot(CONFIG)?;
+    let id = Registers { rcx: 0x46, ..Registers::default() };
+    let reply = machine.hypercall(ROOT, id, &[])?;
+    assert_eq!(machine.explain(ROOT, id, &[], &reply)?, "HvGetPartitionId: ok, partition 1");
+    let get = Registers { rcx: (1 << 32) | 0x50, ..Registers::default() };
+    let input = bytes::<20>(&[(0, 9), (18, 9)]);
+    let reply = machine.hypercall(ROOT, get, &input)?;
+    assert!(machine.explain(ROOT, get, &input, &reply)?.ends_with("P9: the target doesn't exist"));
+    let reply = machine.write_msr(ROOT, 0x4000_0092, 0xf)?;
+    let words = machine.explain_access(ROOT, Access::WriteMsr(0x4000_0092, 0xf), &reply)?;
+    assert!(words.contains("fault, P27: "), "{words}");
     assert_eq!(machine.events(), 3);
     Ok(())
 }
@@ -160,7 +195,7 @@ fn a_machine_moves_to_another_thread() {
 #[test]
 fn events_are_lines_of_a_script() {
     let by = Caller::new(2, 1);
-    let call = Registers { rcx: 6 << 32 | 0x48, rdx: 0x3000, r8: 0 };
+    let call = Registers { rcx: (6 << 32) | 0x48, rdx: 0x3000, r8: 0 };
     assert_eq!(boot_line(CONFIG, 1000), "boot 32 12 1 0xf700000044 1000\n");
     let line = hypercall_line(by, call, &[2, 0, 0xAB]);
     assert_eq!(line, Ok("2.1 call 0x600000048 0x3000 0x0 0200ab\n".into()));

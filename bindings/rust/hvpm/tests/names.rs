@@ -1,11 +1,15 @@
 //! The version, and the names of statuses and rules.
 
 use hvpm::{Caller, HvStatus, PartitionId, Rule, Status, VpIndex};
-use hvpm::{hv_status_name, rule_name, rule_sentence, status_name, version};
+use hvpm::{hv_status_name, rule_name, rule_sentence, status_name, version, version_number};
 
 #[test]
 fn the_version_is_that_of_the_package() {
     assert_eq!(version(), env!("CARGO_PKG_VERSION"));
+    let [major, minor, patch] =
+        [env!("CARGO_PKG_VERSION_MAJOR"), env!("CARGO_PKG_VERSION_MINOR"), env!("CARGO_PKG_VERSION_PATCH")]
+            .map(|part| part.parse::<u32>().expect("cargo gives numbers"));
+    assert_eq!(version_number(), major * 10_000 + minor * 100 + patch);
 }
 
 #[test]

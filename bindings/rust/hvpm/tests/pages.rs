@@ -4,7 +4,7 @@ mod common;
 
 use common::{GUEST, POST, ROOT, SIGNAL, enable, has, with_child};
 use hvpm::pages::Pages;
-use hvpm::{Access, Caller, Effect, Machine, Registers, Reply, Sint, Status, VpIndex};
+use hvpm::{Caller, Effect, Machine, Registers, Reply, Sint, Status, VpIndex};
 use std::ptr::NonNull;
 use std::sync::atomic::{AtomicU8, Ordering::SeqCst};
 
@@ -111,35 +111,6 @@ fn pages_move_with_what_they_show() -> Result<(), Status> {
     other.free();
     pages.before(&mut machine)?;
     assert!(!pages.take_freed(), "a page that was moved away is not read");
-    Ok(())
-}
-
-/// Each event in the guest's place is recorded with its line, in order: the events of `machine.events()` are
-/// those of the test and these.
-#[test]
-fn events_in_the_guests_place_are_recorded() -> Result<(), Status> {
-    let (messages, flags) = (Page::new(0), Page::new(0));
-    let mut seen = Vec::new();
-    let mut pages = Pages::recorded(GUEST, |record| {
-        assert_eq!((record.by, record.reply.is_served()), (GUEST, true));
-        seen.push((record.access, record.reply.line().to_owned()));
-    });
-    let mut machine = set_up(&mut pages, &messages, &flags)?;
-    let first = machine.events();
-    post(&mut machine, &mut pages, b'a')?;
-    let mut moved = std::mem::replace(&mut pages, Pages::new(GUEST)); // Its place has another value now.
-    messages.free();
-    moved.before(&mut machine)?;
-    moved.vector(&mut machine)?;
-    let reply = machine.signal_event(ROOT, SIGNAL, 2)?;
-    moved.after(&mut machine, &reply)?;
-    drop((pages, moved));
-    let wanted = [
-        (Access::ClearSlot(Sint(2)), format!("{} 2.0 clearslot 2 ok -\n", first + 2)),
-        (Access::TakeInterrupt, format!("{} 2.0 interrupt ok 82\n", first + 3)),
-        (Access::ClearFlag(Sint(3), 10), format!("{} 2.0 clearflag 3 10 ok -\n", first + 5)),
-    ];
-    assert_eq!((seen, machine.events()), (wanted.to_vec(), first + 5));
     Ok(())
 }
 

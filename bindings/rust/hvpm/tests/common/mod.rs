@@ -23,7 +23,7 @@ fn hex(bytes: &[u8]) -> String {
     if bytes.is_empty() {
         return "-".into();
     }
-    bytes.iter().map(|byte| format!("{byte:02x}")).collect()
+    bytes.iter().fold(String::new(), |text, byte| text + &format!("{byte:02x}"))
 }
 
 /// An access is served with this output, and its line says which one it was.
@@ -59,7 +59,7 @@ pub fn set_up() -> Machine {
         (0x95, 0, &bytes::<48>(&[(0, 1), (8, 3), (16, 1), (24, 2), (32, 3), (42, 8)])),
         (0x96, 0, &bytes::<48>(&[(0, 1), (8, 3), (16, 1), (24, 3), (32, 2)])),
         (0x5C, 0, &bytes::<17>(&[(0, 2), (8, 1), (12, 1), (16, 0x68)])),
-        (0x1005D, 5 << 32 | 3, &[]),
+        (0x1005D, (5 << 32) | 3, &[]),
     ];
     for (number, (rcx, rdx, input)) in (6..).zip(calls) {
         let reply = machine.hypercall(ROOT, Registers { rcx, rdx, r8: 0 }, input).expect("it is taken");
