@@ -9,6 +9,8 @@ import signal
 import sys
 import time
 
+KEPT = []  # the scripts of this process before this one
+
 
 def read(path):
     """A file's text, none where it isn't there."""
@@ -46,7 +48,7 @@ def spoil(fault, text, name):
     if len(lines) < 2:
         return text
     last = next(at for at, line in enumerate(lines) if line.startswith("events "))
-    if fault == "byte" or fault == "once" and name == "of_processors":
+    if fault == "byte" or fault == "once" and name == "of_processors" or fault == "kept" and KEPT:
         return text.replace("ok 0000000000000000 0", "ok 0000000000000000 f", 1)
     if fault == "extra":
         return text + "one line more\n"
@@ -82,6 +84,7 @@ def tell(fault, script, table):
         return status, error
     sys.stdout.write(spoil(fault, out, name))
     sys.stdout.flush()
+    KEPT.append(name)
     if fault == "endless":
         while True:
             sys.stdout.write("x" * (1 << 20))

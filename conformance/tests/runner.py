@@ -92,11 +92,136 @@ def a_wrong_byte_fails_with_its_line():
         "\n    1.0 call 0x46 0 0x1f000 -\n",
         "wanted: 1 1.0 call",
         "told:   1 1.0 call",
-        "byte 0: 01 wanted, f1 told; 1 of 8",
+        "the output: 0x1 wanted, 0xf1 told",
     )
     name = "interface/calls/46_get_partition_id"
     must_count(oracle("byte"), 0, 1, f"FAILED {name}\n", *told, f"\nfailed: {name}\n")
     must_count(oracle("byte", "--batch"), 0, 1, *told)
+
+
+def rows(told):
+    """The rows of the table of causes."""
+    lines = told[1].splitlines()
+    at = next((at for at, line in enumerate(lines) if line.endswith(": the cause, and the first of them")), len(lines))
+    return [line for line in lines[at + 1 : -1] if re.match(" *[0-9]+ ", line)]
+
+
+@test
+def causes_are_counted():
+    told = run("--batch", "--group", "interface/flags", *ORACLE, "byte")
+    must(told, 1, "cases that begin to fail alike: the cause, and the first of them\n")
+    found = [re.fullmatch(r" *(\d+) (\w.*) -> (.*), first (\S+)", row).groups() for row in rows(told)]
+    counts = [int(row[0]) for row in found]
+    failed = int(re.search(r" (\d+) failed\n$", told[1])[1])
+    assert sum(counts) == failed > 1 and counts == sorted(counts, reverse=True), told[1]
+    assert all(row[3].startswith("interface/flags/") for row in found), told[1]
+    assert rows(run("--group", "interface/flags", *ORACLE, "none")) == []
+    for fault, row in (
+        ("byte", "HvGetPartitionId ok -> ok, another output"),
+        ("nothing", "HvGetPartitionId ok -> nothing"),
+        ("exit", "status 0 -> 7"),
+        ("crash", "the program -> it was ended by signal 11 (SIGSEGV)"),
+        ("noise", "standard error: none -> noise"),
+        ("end", "the end -> nothing"),
+        ("again", "the end -> one more event: HvGetPartitionId"),
+        ("event", "HvGetPartitionId ok -> the end"),
+        ("rules", "HvGetPartitionId denied P5 -> denied P0"),
+    ):
+        told = oracle(fault)
+        wanted = f"   1 {row}, first interface/calls/46_get_partition_id"
+        assert rows(told) == [wanted], f"{fault}: {rows(told)}, and not {wanted}"
+    told = oracle("byte", "--tap")
+    must(told, 1, "#    1 HvGetPartitionId ok -> ok, another output, first ")
+    for fault, row in (("cell", "table: another parent"), ("table", "table: a line is missing")):
+        assert rows(oracle(fault, case="interface/boot/mask"))[0].startswith(f"   1 {row}, first "), fault
+
+
+@test
+def causes_are_those_of_lines():
+    slot = "slot 2 ok 0100000005{:02x}00000500000000000000" + "00" * 240
+    for good, heard, cause in (
+        ("1 1.0 call 000000000000005c ok 0 -", "1 1.0 call 000000000000005c denied 18 P22", "HvPostMessage ok -> denied P22"),
+        ("1 1.0 call 0000000000010041 denied 6 P8", "1 1.0 call 0000000000010041 denied 7 P8",
+         "HvInitializePartition denied ACCESS_DENIED -> denied INVALID_PARTITION_STATE"),
+        ("1 1.0 call 0000000000010041 denied 6", "1 1.0 call 0000000000010041 denied 99",
+         "HvInitializePartition denied ACCESS_DENIED -> denied 0x99"),
+        ("1 1.0 " + slot.format(1), "1 1.0 " + slot.format(0), "slot ok -> ok, another flags (bit 0 is MessagePending)"),
+        ("1 1.0 rdmsr 40000099 ok 0000010000000000", "1 1.0 rdmsr 40000099 fault P26", "rdmsr of a SINT ok -> fault P26"),
+        ("1 1.0 wrmsr 40000083 0000000000000001 ok -", "1 1.0 wrmsr 40000083 0000000000000001 fault P27",
+         "wrmsr SIMP ok -> fault P27"),
+        ("1 1.0 rdmsr 40000000 fault P25", "1 1.0 rdmsr 40000000 ok 00", "rdmsr of an unknown MSR fault P25 -> ok"),
+        ("1 1.0 interrupt ok 32", "1 1.0 interrupt ok 31", "interrupt ok -> ok, another vector"),
+        ("1 1.0 flags 3 ok 01", "1 1.0 flags 3 ok 02", "flags ok -> ok, another flag"),
+        ("1 1.0 flags 3 ok 01", "1 1.0 flags 3 ok 0100", "flags ok -> ok, an output of another length"),
+        ("1 1.0 call 0000000200000048 more 0000000100000000 -", "1 1.0 call 0000000200000048 ok 0000000200000000 -",
+         "HvDepositMemory more -> ok"),
+        ("1 1.0 call 0000000200000048 more 0000000100000000 -", "1 1.0 call 0000000200000048 more 0000000000000000 -",
+         "HvDepositMemory more -> more, another result value"),
+        ("1 1.0 interrupt ok 00", "1 1.0 flags 3 ok 00", "interrupt -> another event: flags"),
+        ("1 1.0 interrupt ok 00", "1 1.1 interrupt ok 00",
+         "interrupt -> another event: one with other registers or of another VP"),
+        ("events 3", "", "the end -> nothing"),
+    ):
+        found = RUNNER.report.cause(good, heard)
+        assert found == cause, f"{found}, and not {cause}"
+
+
+@test
+def a_slot_that_differs_is_told_by_field():
+    names = "message type", "payload size", "flags (bit 0 is MessagePending)", "port id", "payload byte 0"
+    good = "1 1.0 slot 2 ok " + "0100000005010000" + "0500000000000000" + "61" * 5 + "00" * 235
+    for name, at in zip(names, (0, 4, 5, 8, 16)):
+        begin = len("1 1.0 slot 2 ok ") + 2 * at
+        heard = good[:begin] + f"{int(good[begin:begin + 2], 16) ^ 3:02x}" + good[begin + 2 :]
+        (line,) = RUNNER.report.details(good, heard)
+        assert line.startswith(f"{name}: 0x"), line
+    flags = "1 1.0 flags 3 ok {}00"
+    assert RUNNER.report.details(flags.format("03"), flags.format("05")) == [
+        "flag 1: 0x1 wanted, 0x0 told", "flag 2: 0x0 wanted, 0x1 told"]
+
+
+@test
+def a_case_that_fails_in_a_batch_runs_alone():
+    kept = "it passes alone: your driver keeps state from one script to the next"
+    told = run("--batch", "--group", "interface/flags", *ORACLE, "kept")
+    must(told, 1, f"\n    {kept}\n", " of them pass alone: your driver keeps state from one script to the next\n")
+    told = run("--batch", "--group", "interface/flags", *ORACLE, "byte")
+    must(told, 1, "\n    it fails alone, too\n")
+    assert kept not in told[1], told[1]
+    assert "alone" not in run("--group", "interface/flags", *ORACLE, "byte")[1]
+
+
+@test
+def an_event_is_told_once():
+    told = oracle("byte", case="interface/calls/40_create_partition")
+    must_count(told, 0, 2, " --table\n    it fails as it does without --table\n")
+    assert told[1].count("    wanted: ") == 1, told[1]
+    assert len(rows(told)) == 1 and rows(told)[0].startswith("   1 "), rows(told)
+
+
+@test
+def the_program_explains_the_first_wrong_event():
+    with tempfile.TemporaryDirectory() as room:
+        program = Path(room, "hvpm")
+        program.write_text("#!/bin/sh\n[ $1 = explain ] && echo '1 1.0 HvGetPartitionId: ok, partition 1'\n")
+        program.chmod(0o755)
+        told = oracle("byte", "--explain", str(program))
+        must(told, 1, "\n    explained: 1 1.0 HvGetPartitionId: ok, partition 1\n")
+        must(oracle("feed", "--explain", str(program)), 1)
+        program.write_text("#!/bin/sh\necho 'hvpm: memory' >&2; exit 3\n")
+        must(oracle("byte", "--explain", str(program)), 1, "\n    not explained: hvpm: memory\n")
+
+
+@test
+def bugs_are_named_by_the_first_three_rows():
+    """Bugs that are planted into the model of this repository, where it is there."""
+    planted = load("tests/planted.py")
+    if not planted.MODEL.is_dir():
+        return
+    for bug, (_, _, row, folder) in planted.BUGS.items():
+        words = "--no-tables", "--batch", "-j", "2", "--group", f"interface/{folder}"
+        told = run(*words, *PYTHON, str(HOME / "tests" / "planted.py"), bug)
+        assert any(row in each for each in rows(told)[:3]), f"{bug}: no row {row} in {rows(told)[:3]}"
 
 
 @test
@@ -276,7 +401,9 @@ def results_are_told_to_machines():
         must(run("--junit", str(file), "--batch", "--group", "interface/flags", *ORACLE, "byte"), 1)
         suite = ElementTree.parse(file).getroot().find("testsuite")
         assert len(suite) == int(suite.get("tests")) == 5, suite.attrib
-        assert len(suite.findall("testcase/failure")) == int(suite.get("failures")) > 0, suite.attrib
+        failures = suite.findall("testcase/failure")
+        assert len(failures) == int(suite.get("failures")) > 0, suite.attrib
+        assert all(" -> " in each.get("message") and "wanted: " in each.text for each in failures), failures
 
 
 @test
