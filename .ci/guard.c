@@ -42,6 +42,8 @@ WRAPS(hv_embed_peek_flags);
 WRAPS(hv_embed_table);
 WRAPS(hv_embed_hypercall_line);
 WRAPS(hv_embed_access_line);
+WRAPS(hv_embed_explain);
+WRAPS(hv_embed_explain_access);
 
 uint32_t __wrap_hv_embed_hypercall(hvpm_machine *machine, hvpm_caller by, const hvpm_registers *registers,
                                    const uint8_t *input, size_t input_len, hvpm_reply *reply, uint8_t *line,
@@ -55,13 +57,13 @@ uint32_t __wrap_hv_embed_hypercall(hvpm_machine *machine, hvpm_caller by, const 
 }
 
 uint32_t __wrap_hv_embed_run(hvpm_machine *machine, hvpm_caller by, const hvpm_registers *registers,
-                             const uint8_t *input, size_t input_len, hvpm_reply *reply, uint8_t *outputs,
-                             size_t outputs_size, hvpm_run_done *done) {
+                             const uint8_t *input, size_t input_len, uint32_t most, hvpm_reply *reply,
+                             uint8_t *outputs, size_t outputs_size, hvpm_run_done *done) {
     const struct guarded in = guard(input, input_len), out = guard(outputs, outputs_size),
                          told = guard(reply, sizeof *reply);
     const uint32_t status =
-        __real_hv_embed_run(machine, by, registers, in.at, input_len, (hvpm_reply *)(void *)told.at, out.at,
-                            outputs_size, done);
+        __real_hv_embed_run(machine, by, registers, in.at, input_len, most, (hvpm_reply *)(void *)told.at,
+                            out.at, outputs_size, done);
     let_go(in), put_back(out, outputs), put_back(told, reply);
     return status;
 }
@@ -102,5 +104,28 @@ uint32_t __wrap_hv_embed_access_line(hvpm_caller by, uint32_t access, uint32_t n
     const uint32_t status =
         __real_hv_embed_access_line(by, access, number, value, out.at, text_size, len);
     put_back(out, text);
+    return status;
+}
+
+uint32_t __wrap_hv_embed_explain(hvpm_machine *machine, hvpm_caller by, const hvpm_registers *registers,
+                                 const uint8_t *input, size_t input_len, const hvpm_reply *reply,
+                                 uint8_t *text, size_t text_size, size_t *len) {
+    const struct guarded in = guard(input, input_len), out = guard(text, text_size),
+                         told = guard(reply, sizeof *reply);
+    const uint32_t status =
+        __real_hv_embed_explain(machine, by, registers, in.at, input_len,
+                                (const hvpm_reply *)(const void *)told.at, out.at, text_size, len);
+    let_go(in), put_back(out, text), let_go(told);
+    return status;
+}
+
+uint32_t __wrap_hv_embed_explain_access(hvpm_machine *machine, hvpm_caller by, uint32_t access, uint32_t number,
+                                        uint64_t value, const hvpm_reply *reply, uint8_t *text,
+                                        size_t text_size, size_t *len) {
+    const struct guarded out = guard(text, text_size), told = guard(reply, sizeof *reply);
+    const uint32_t status =
+        __real_hv_embed_explain_access(machine, by, access, number, value,
+                                       (const hvpm_reply *)(const void *)told.at, out.at, text_size, len);
+    put_back(out, text), let_go(told);
     return status;
 }

@@ -39,6 +39,11 @@ static struct {
 /* What it answers. */
 static struct { uint32_t status, kind, output_len; } answer;
 
+/* A call of which only what it gives the library matters. */
+static void made(uint32_t status) {
+    holds("a call", "its status", status == answer.status);
+}
+
 static uint32_t take(hvpm_machine *machine, hvpm_caller by, hvpm_reply *reply, uint8_t *line,
                      size_t line_size) {
     got.times++;
@@ -324,16 +329,16 @@ static void try_lists(void) {
     for (size_t i = 0; i < sizeof lengths / sizeof *lengths; i++) {
         const uint16_t count = lengths[i].count;
         const uint64_t rcx = UINT64_C(0xFFFF) << 48 | (uint64_t)count << 32;
-        hvpm_deposit_memory(&machine, by, wide1, count ? pages : NULL, count, 0xFFFF, &reply, line,
-                            sizeof line);
+        made(hvpm_deposit_memory(&machine, by, wide1, count ? pages : NULL, count, 0xFFFF, &reply, line,
+                                 sizeof line));
         holds("hvpm_deposit_memory", "its list", got.input_len == lengths[i].pages);
         holds("hvpm_deposit_memory", "all of its indexes", got.registers.rcx == (rcx | 0x48));
-        hvpm_get_vp_registers(&machine, by, wide1, word2, count ? registers : NULL, count, 0xFFFF, &reply,
-                              line, sizeof line);
+        made(hvpm_get_vp_registers(&machine, by, wide1, word2, count ? registers : NULL, count, 0xFFFF,
+                                   &reply, line, sizeof line));
         holds("hvpm_get_vp_registers", "its list", got.input_len == lengths[i].names);
         holds("hvpm_get_vp_registers", "all of its indexes", got.registers.rcx == (rcx | 0x50));
-        hvpm_set_vp_registers(&machine, by, wide1, word2, count ? registers : NULL, count, 0xFFFF, &reply,
-                              line, sizeof line);
+        made(hvpm_set_vp_registers(&machine, by, wide1, word2, count ? registers : NULL, count, 0xFFFF,
+                                   &reply, line, sizeof line));
         holds("hvpm_set_vp_registers", "its list", got.input_len == lengths[i].values);
         holds("hvpm_set_vp_registers", "all of its indexes", got.registers.rcx == (rcx | 0x51));
     }
@@ -352,7 +357,8 @@ static void try_payloads(void) {
     for (size_t i = 0; i < sizeof payload; i++) payload[i] = (uint8_t)(i + 1);
     for (size_t i = 0; i < sizeof payloads / sizeof *payloads; i++) {
         const uint32_t size = payloads[i].size;
-        hvpm_post_message(&machine, by, word1, word2, size ? payload : NULL, size, &reply, line, sizeof line);
+        made(hvpm_post_message(&machine, by, word1, word2, size ? payload : NULL, size, &reply, line,
+                               sizeof line));
         if (size != 0) {
             holds("hvpm_post_message", "its payload", memcmp(got.input + 16, payload, sizeof payload) == 0);
             memset(got.input + 16, 0, sizeof payload);
@@ -365,8 +371,8 @@ static void try_payloads(void) {
 static void try_none(void) {
     answer.status = HVPM_STATUS_OK;
     answer.output_len = 16;
-    hvpm_withdraw_memory(&machine, by, wide1, NULL, 0, 0, &reply, line, sizeof line);
-    hvpm_get_vp_registers(&machine, by, wide1, word2, NULL, 0, 0, &reply, line, sizeof line);
+    made(hvpm_withdraw_memory(&machine, by, wide1, NULL, 0, 0, &reply, line, sizeof line));
+    made(hvpm_get_vp_registers(&machine, by, wide1, word2, NULL, 0, 0, &reply, line, sizeof line));
 }
 
 int main(void) {

@@ -16,7 +16,7 @@
 #include <string.h>
 
 /* How many cases of a null there are. */
-enum { CASES = 206 };
+enum { CASES = 235 };
 
 static int wrong;
 
@@ -63,6 +63,9 @@ enum argument {
     TEXT,
     LEN,
     MADE,
+    VP,
+    ID,
+    RUN,
     ARGUMENTS,
     END = ARGUMENTS
 };
@@ -70,7 +73,7 @@ static const char *const names[ARGUMENTS] = {
     "machine",   "config", "registers", "input",  "reply", "line",      "outputs", "done", "value",
     "partition", "child",  "available", "in_use", "pages", "registers", "payload", "port", "connection",
     "out",       "owner",  "eax_to_edx", "pending", "text", "len",
-    "made"};
+    "made",      "vp",     "id",        "run"};
 struct arguments {
     void *at[ARGUMENTS];
     size_t len[ARGUMENTS];
@@ -105,6 +108,8 @@ struct world {
     } out;
     uint32_t features[4];
     uint64_t pending[4];
+    uint32_t id;
+    hvpm_page_run run;
     char text[512];
     size_t len;
 };
@@ -169,12 +174,14 @@ static struct arguments arguments_of(struct world *world, enum kind kind) {
     world->vp_registers[1].name = 0x20001;
     world->port = (hvpm_port){.partition = 1, .id = 4, .peer = 1, .type = HVPM_PORT_MESSAGES};
     world->connection = (hvpm_connection){1, 4, 1, 2, HVPM_PORT_MESSAGES};
+    if (kind == LOOK) world->reply = (hvpm_reply){.kind = HVPM_REPLY_SERVED};
     hvpm_machine *machine = kind == HANDLE ? &world->empty : &world->machine;
     return (struct arguments){
         {machine, &world->config, &world->registers, world->input, &world->reply, world->line, world->outputs,
          &world->done, &world->number, &world->number, &world->number, &world->number, &world->other,
          world->pages, world->vp_registers, world->payload, &world->port, &world->connection, &world->out,
-         &world->number, world->features, world->pending, world->text, &world->len, &world->len},
+         &world->number, world->features, world->pending, world->text, &world->len, &world->len, &world->id,
+         &world->id, &world->run},
         {[INPUT] = sizeof world->input,
          [LINE] = sizeof world->line,
          [OUTPUTS] = sizeof world->outputs,
@@ -235,6 +242,11 @@ static uint32_t hypercall(const struct arguments *a) {
 static uint32_t run(const struct arguments *a) {
     return hvpm_run(a->at[MACHINE], root, a->at[REGISTERS], a->at[INPUT], a->len[INPUT], a->at[REPLY],
                     a->at[OUTPUTS], a->len[OUTPUTS], a->at[DONE]);
+}
+
+static uint32_t run_at_most(const struct arguments *a) {
+    return hvpm_run_at_most(a->at[MACHINE], root, a->at[REGISTERS], a->at[INPUT], a->len[INPUT], 1,
+                            a->at[REPLY], a->at[OUTPUTS], a->len[OUTPUTS], a->at[DONE]);
 }
 
 static uint32_t read_msr(const struct arguments *a) {
@@ -412,12 +424,38 @@ static uint32_t page_owner(const struct arguments *a) {
     return hvpm_page_owner(a->at[MACHINE], 0, a->at[OWNER]);
 }
 
+static uint32_t vp_after(const struct arguments *a) {
+    return hvpm_vp_after(a->at[MACHINE], 1, HVPM_FIRST, a->at[VP]);
+}
+
+static uint32_t port_after(const struct arguments *a) {
+    return hvpm_port_after(a->at[MACHINE], 1, HVPM_FIRST, a->at[ID]);
+}
+
+static uint32_t connection_after(const struct arguments *a) {
+    return hvpm_connection_after(a->at[MACHINE], 1, HVPM_FIRST, a->at[ID]);
+}
+
+static uint32_t page_after(const struct arguments *a) {
+    return hvpm_page_after(a->at[MACHINE], 1, HVPM_FIRST, a->at[RUN]);
+}
+
 static uint32_t features(const struct arguments *a) {
     return hvpm_features(a->at[MACHINE], 1, a->at[FEATURES]);
 }
 
 static uint32_t table(const struct arguments *a) {
     return hvpm_table(a->at[MACHINE], a->at[TEXT], a->len[TEXT], a->at[LEN]);
+}
+
+static uint32_t explain(const struct arguments *a) {
+    return hvpm_explain(a->at[MACHINE], root, a->at[REGISTERS], a->at[INPUT], a->len[INPUT], a->at[REPLY],
+                        a->at[TEXT], a->len[TEXT], a->at[LEN]);
+}
+
+static uint32_t explain_access(const struct arguments *a) {
+    return hvpm_explain_access(a->at[MACHINE], root, HVPM_READ_SLOT, 2, 0, a->at[REPLY], a->at[TEXT],
+                               a->len[TEXT], a->at[LEN]);
 }
 
 static uint32_t hypercall_line(const struct arguments *a) {
@@ -439,6 +477,7 @@ static const struct function {
     {"hvpm_destroy", destroy, HANDLE, {MACHINE, END}},
     {"hvpm_hypercall", hypercall, EVENT, {MACHINE, REGISTERS, INPUT, REPLY, LINE, END}},
     {"hvpm_run", run, EVENT, {MACHINE, REGISTERS, INPUT, REPLY, OUTPUTS, DONE, END}},
+    {"hvpm_run_at_most", run_at_most, EVENT, {MACHINE, REGISTERS, INPUT, REPLY, OUTPUTS, DONE, END}},
     {"hvpm_read_msr", read_msr, EVENT, {MACHINE, REPLY, LINE, END}},
     {"hvpm_write_msr", write_msr, EVENT, {MACHINE, REPLY, LINE, END}},
     {"hvpm_read_slot", read_slot, EVENT, {MACHINE, REPLY, LINE, END}},
@@ -481,8 +520,14 @@ static const struct function {
     {"hvpm_peek_connection", peek_connection, LOOK, {MACHINE, OUT, END}},
     {"hvpm_child_after", child_after, LOOK, {MACHINE, CHILD, END}},
     {"hvpm_page_owner", page_owner, LOOK, {MACHINE, OWNER, END}},
+    {"hvpm_vp_after", vp_after, LOOK, {MACHINE, VP, END}},
+    {"hvpm_port_after", port_after, LOOK, {MACHINE, ID, END}},
+    {"hvpm_connection_after", connection_after, LOOK, {MACHINE, ID, END}},
+    {"hvpm_page_after", page_after, LOOK, {MACHINE, RUN, END}},
     {"hvpm_features", features, LOOK, {MACHINE, FEATURES, END}},
     {"hvpm_table", table, LOOK, {MACHINE, TEXT, LEN, END}},
+    {"hvpm_explain", explain, LOOK, {MACHINE, REGISTERS, INPUT, REPLY, TEXT, LEN, END}},
+    {"hvpm_explain_access", explain_access, LOOK, {MACHINE, REPLY, TEXT, LEN, END}},
     {"hvpm_hypercall_line", hypercall_line, HANDLE, {REGISTERS, INPUT, TEXT, LEN, END}},
     {"hvpm_access_line", access_line, HANDLE, {TEXT, LEN, END}},
 };
@@ -517,7 +562,7 @@ static void try_null(const struct function *function, int argument) {
 static void try_none(const struct function *function, int argument) {
     struct world world;
     set_up(&world);
-    struct arguments arguments = arguments_of(&world, EVENT);
+    struct arguments arguments = arguments_of(&world, function->kind == LOOK ? LOOK : EVENT);
     arguments.at[argument] = NULL;
     arguments.len[argument] = 0;
     tell_case(function, argument, " of no bytes");
@@ -526,6 +571,9 @@ static void try_none(const struct function *function, int argument) {
          argument == OUTPUTS || argument == TEXT ? HVPM_STATUS_SHORT : HVPM_STATUS_OK);
     if (argument == LINE)
         holds(function->name, "no line", world.reply.line_len == 0 && world.reply.rule == 0);
+    if (argument == INPUT && function->kind == LOOK)
+        holds(function->name, "words without input",
+              world.len > 28 && memcmp(world.text, "HvWithdrawMemory partition 0", 28) == 0);
     if (argument == INPUT && function->kind == EVENT)
         holds(function->name, "that no partition is 0",
               world.reply.kind == HVPM_REPLY_DENIED && world.reply.rule == 9);
@@ -554,11 +602,16 @@ static void try_all(const struct function *function) {
     hvpm_destroy(&world.empty);
 }
 
+/* Whether it takes this argument. */
+static bool has(const struct function *function, int argument) {
+    for (const int *at = function->takes; *at != END; at++)
+        if (*at == argument) return true;
+    return false;
+}
+
 /* Whether it executes several elements, without a line. */
 static bool goes_on(const struct function *function) {
-    for (const int *argument = function->takes; *argument != END; argument++)
-        if (*argument == LINE) return false;
-    return true;
+    return !has(function, LINE);
 }
 
 /* The handle's count is at its end: nothing is written, and nothing happened. One before, one is taken. */
@@ -581,7 +634,7 @@ static void try_used_up(const struct function *function) {
     if (goes_on(function))
         holds(function->name, "that it goes on",
               world.reply.kind == HVPM_REPLY_MORE && world.reply.next == 1 &&
-                  (function->call == run ? world.done.events : world.len) == 1);
+                  (has(function, DONE) ? world.done.events : world.len) == 1);
     want(function->name, "used up after it", function->call(&arguments), HVPM_STATUS_USED_UP);
     hvpm_destroy(&world.machine);
 }

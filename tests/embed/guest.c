@@ -161,7 +161,7 @@ static void is_gated(void) {
         {0x40000002, 1, 6},             {0x40000003, 1, 7},
         {0x40000004, 12, NO_PRIVILEGE}, {0x40000010, 1, 0},
         {0x40000011, 15, NO_PRIVILEGE}, {0x40000020, 1, 1},
-        {0x40000021, 1, 9},             {0x40000022, 2, 11},
+        {0x40000021, 1, NO_PRIVILEGE},  {0x40000022, 2, 11},
         {0x40000024, 76, NO_PRIVILEGE}, {0x40000070, 3, 4},
         {0x40000073, 13, NO_PRIVILEGE}, {0x40000080, 5, 2},
         {0x40000085, 11, NO_PRIVILEGE}, {0x40000090, 16, 2},
@@ -180,12 +180,13 @@ static void is_gated(void) {
 }
 
 static void is_owned(void) {
-    hvpm_guest guest = {0, 0, {0}};
+    hvpm_guest guest = {.os_id = 0};
     uint64_t value = 77;
     for (uint32_t msr = 0x3FFFFFF0; msr < 0x40000200; msr++) {
         const bool is_machines = msr == 0x40000002 || (msr >= 0x40000080 && msr <= 0x40000084) ||
                                  (msr >= 0x40000090 && msr <= 0x4000009F);
-        const bool is_kept = msr == 0x40000000 || msr == 0x40000001 || msr == 0x40000073;
+        const bool is_kept = msr == 0x40000000 || msr == 0x40000001 || msr == 0x40000021 ||
+                             msr == 0x40000073;
         const enum hvpm_guest_access wanted = is_machines ? HVPM_GUEST_MACHINE
                                               : is_kept   ? HVPM_GUEST_DONE
                                                           : HVPM_GUEST_OTHER;
@@ -211,7 +212,7 @@ static uint64_t read_msr(const hvpm_guest *guest, uint32_t vp, uint64_t mask, ui
 
 static void is_identity(void) {
     const uint64_t without = ~(UINT64_C(1) << 5), os = 0x8100000000060C00, page = 0x12345000;
-    hvpm_guest guest = {0, 0, {0}};
+    hvpm_guest guest = {.os_id = 0};
     holds("no write without bit 5",
           hvpm_guest_write_msr(&guest, 0, without, 0x40000000, os, true) == HVPM_GUEST_FAULT &&
               hvpm_guest_write_msr(&guest, 0, without, 0x40000001, page | 1, true) == HVPM_GUEST_FAULT &&
@@ -249,7 +250,7 @@ static void is_identity(void) {
 }
 
 static void is_locked(void) {
-    hvpm_guest guest = {1, 0, {0}};
+    hvpm_guest guest = {.os_id = 1};
     holds("a locked page",
           hvpm_guest_write_msr(&guest, 0, every, 0x40000001, 0x5003, true) == HVPM_GUEST_CODE);
     holds("stays", hvpm_guest_write_msr(&guest, 0, every, 0x40000001, 0x6001, true) == HVPM_GUEST_DONE &&
@@ -267,10 +268,13 @@ static void is_locked(void) {
 }
 
 static void is_assist(void) {
-    hvpm_guest guest = {0, 0, {0}};
+    hvpm_guest guest = {.os_id = 0};
     holds("a VP assist page, with any mask",
           hvpm_guest_write_msr(&guest, 0, 0, 0x40000073, 0x7001, false) == HVPM_GUEST_DONE &&
               hvpm_guest_write_msr(&guest, 63, 0, 0x40000073, 0x8001, false) == HVPM_GUEST_DONE);
+    holds("a TSC page, with any mask",
+          hvpm_guest_write_msr(&guest, 3, 0, 0x40000021, 0x9001, false) == HVPM_GUEST_DONE &&
+              read_msr(&guest, 0, 0, 0x40000021, 77) == 0x9001 && guest.tsc_page == 0x9001);
     holds("each processor's own",
           read_msr(&guest, 0, 0, 0x40000073, 77) == 0x7001 && read_msr(&guest, 1, 0, 0x40000073, 77) == 0 &&
               read_msr(&guest, 63, 0, 0x40000073, 77) == 0x8001);
@@ -287,13 +291,47 @@ static void has_leaves(void) {
                                           {64, 64, 0, 0}};
     uint32_t regs[4];
     for (uint32_t i = 0; i < 6; i++)
-        holds("a leaf", hvpm_guest_cpuid(0x40000000 + i, 0x3000000064, regs) &&
+        holds("a leaf", hvpm_guest_cpuid(0x40000000 + i, 0x3000000064, 0, regs) &&
                             memcmp(regs, wanted[i], sizeof regs) == 0);
     memset(regs, 1, sizeof regs);
     holds("no other leaf",
-          !hvpm_guest_cpuid(0x40000006, every, regs) && !hvpm_guest_cpuid(0x3FFFFFFF, every, regs) &&
-              !hvpm_guest_cpuid(1, every, regs) && !hvpm_guest_cpuid(0xC0000000, every, regs));
+          !hvpm_guest_cpuid(0x40000006, every, 0, regs) && !hvpm_guest_cpuid(0x3FFFFFFF, every, 0, regs) &&
+              !hvpm_guest_cpuid(1, every, 0, regs) && !hvpm_guest_cpuid(0xC0000000, every, 0, regs));
     holds("it isn't written", regs[0] == 0x01010101 && regs[3] == 0x01010101);
+}
+
+/* Leaf 3 announces what is served, of what the mask allows. */
+static void is_announced(void) {
+    static const struct {
+        uint64_t mask;
+        uint32_t served, low, high;
+    } rows[] = {{UINT64_MAX, 0, 0x64, 0xFFFFFFFF},
+                {UINT64_MAX, 0x202, 0x266, 0xFFFFFFFF},
+                {0x3000000040, 0x202, 0x40, 0x30},
+                {0x242, 0x202, 0x242, 0}};
+    uint32_t regs[4];
+    for EACH(i, rows)
+        holds("what leaf 3 announces",
+              hvpm_guest_cpuid(0x40000003, rows[i].mask, rows[i].served, regs) && regs[0] == rows[i].low &&
+                  regs[1] == rows[i].high);
+}
+
+/* ---- Reference time ---- */
+
+static void is_time(void) {
+    static const uint8_t wanted[24] = {[0] = 7, [15] = 0x80, [16] = 0xFE, 0xFF, 0xFF, 0xFF, 0xFF, 0xFF, 0xFF, 0xFF};
+    const uint64_t scale = hvpm_guest_tsc_scale(2000000000); /* 200 ticks a unit: 2^64 / 200 */
+    uint8_t page[24];
+    holds("the scale of 2 GHz", scale == 0x0147AE147AE147AE);
+    holds("the scale of 20 MHz", hvpm_guest_tsc_scale(20000000) == UINT64_C(1) << 63);
+    holds("no scale", hvpm_guest_tsc_scale(10000000) == 0 && hvpm_guest_tsc_scale(0) == 0);
+    holds("the fastest TSC", hvpm_guest_tsc_scale(UINT64_MAX) == 10000000);
+    holds("a second, less what the scale is rounded by",
+          hvpm_guest_reference_time(2000000000, scale, 0) == 9999999);
+    holds("an offset", hvpm_guest_reference_time(3000000000, scale, -9999999) == 5000000);
+    holds("the largest TSC", hvpm_guest_reference_time(UINT64_MAX, UINT64_MAX, 2) == 0);
+    hvpm_guest_tsc_page(7, UINT64_C(1) << 63, -2, page);
+    holds("the page", memcmp(page, wanted, sizeof page) == 0);
 }
 
 int main(void) {
@@ -312,5 +350,7 @@ int main(void) {
     is_locked();
     is_assist();
     has_leaves();
+    is_announced();
+    is_time();
     return 0;
 }

@@ -1,9 +1,9 @@
-
 /*
- * The guest of docs/EMBEDDING.md, whose C fragments stand above: `.ci/embed` puts them there. It finds its
- * hypervisor, turns its SynIC on, takes messages and a flag from its pages, calls, and is reset. What is
- * wrong goes to standard error.
+ * A guest of the VMM of docs/EMBEDDING.md, whose code is examples/c/guide.h. It finds its hypervisor, turns its
+ * SynIC on, takes messages and a flag from its pages, calls, and is reset. What is wrong goes to standard error.
  */
+#include "guide.h"
+
 #include <stdio.h>
 #include <stdlib.h>
 
@@ -105,10 +105,24 @@ static void take(hvpm_pages *vcpu, const char *text, bool is_pending) {
     if (is_pending) holds("EOM", write_msr(vcpu, HVPM_MSR_EOM, 0));
 }
 
+/* Whether the record has all events of the guide's guest, in order. */
+static void recorded(uint64_t events) {
+    static char text[1 << 16];
+    FILE *const file = fmemopen(text, sizeof text, "w");
+    uint64_t number = 0;
+    holds("a file", file != NULL);
+    keep(&record.audit, file);
+    holds("it is written", fclose(file) == 0 && record.audit.len == 0 && !record.is_cut);
+    for (const char *at = text; *at; at = strchr(at, '\n') + 1)
+        holds("a recorded event", strtoull(at, NULL, 10) == ++number);
+    holds("each event is recorded", number == events);
+}
+
 int main(void) {
     uint32_t regs[4];
     hvpm_reply reply;
     hvpm_pages *vcpu = &vcpus[2], *other = &vcpus[1];
+    machine.record = &record;
     holds("boot", boot());
     cpuid(0x40000000, regs);
     holds("the vendor", memcmp(&regs[1], "Microsoft Hv", 12) == 0);
@@ -156,6 +170,8 @@ int main(void) {
     turn_on(vcpu);
     post("after a reset"), take(vcpu, "after a reset", false);
     holds("the other had nothing", other->messages == NULL && other->raised[0] == 0);
+    recorded(machine.events);
+    hvpm_record_free(&record);
     hvpm_destroy(&machine);
     return 0;
 }

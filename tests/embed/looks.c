@@ -216,6 +216,66 @@ static void look_at_pages(void) {
     holds("nothing is written of no page", owner == 0xA5);
 }
 
+/* ---- What a partition has ---- */
+
+typedef uint32_t next_number(const hvpm_machine *, uint64_t, uint32_t, uint32_t *);
+
+/* Whether a partition has these numbers and no more, in this order, also where the list begins elsewhere. */
+static bool has_numbers(next_number *after, uint64_t partition, size_t count, const uint32_t *numbers) {
+    uint32_t number = HVPM_FIRST;
+    for (size_t i = 0; i < count; i++) {
+        if (after(&machine, partition, number, &number) != HVPM_STATUS_OK || number != numbers[i]) return false;
+        for (uint32_t low = i == 0 ? 0 : numbers[i - 1]; low < numbers[i]; low++) {
+            uint32_t found = 0xA5;
+            if (after(&machine, partition, low, &found) != HVPM_STATUS_OK || found != numbers[i]) return false;
+        }
+    }
+    const uint32_t last = number;
+    return after(&machine, partition, last, &number) == HVPM_STATUS_NONE && number == last &&
+           after(&machine, partition, UINT32_MAX - 1, &number) == HVPM_STATUS_NONE && number == last;
+}
+
+static void list_numbers(void) {
+    static const uint32_t zero[] = {0}, one_two[] = {1, 2}, three[] = {3}, five_seven[] = {5, 7}, six[] = {6};
+    holds("the root's processor", has_numbers(hvpm_vp_after, 1, 1, zero));
+    holds("the processor of 2", has_numbers(hvpm_vp_after, 2, 1, one_two));
+    holds("the root's port", has_numbers(hvpm_port_after, 1, 1, three));
+    holds("the ports of 2", has_numbers(hvpm_port_after, 2, 2, five_seven));
+    holds("the root's connections", has_numbers(hvpm_connection_after, 1, 2, one_two));
+    holds("the connection of 2", has_numbers(hvpm_connection_after, 2, 1, six));
+    for (uint64_t partition = 3; partition < 6; partition++)
+        holds("others have none", has_numbers(hvpm_vp_after, partition, 0, NULL) &&
+                                      has_numbers(hvpm_port_after, partition, 0, NULL) &&
+                                      has_numbers(hvpm_connection_after, partition, 0, NULL));
+}
+
+static bool is_run(uint64_t partition, uint64_t previous, hvpm_page_run wanted) {
+    hvpm_page_run run = {0xA5, 0, 0};
+    return hvpm_page_after(&machine, partition, previous, &run) == HVPM_STATUS_OK && run.page == wanted.page &&
+           run.count == wanted.count && run.pooled == wanted.pooled;
+}
+
+/* The root has pages 0 to 15 in its pool, and 16 to 19 and 30 to 63 loose; partition 2 has 20 to 29. */
+static void list_pages(void) {
+    static const uint64_t beyond[] = {63, 64, 65535, 65536, UINT64_C(1) << 32, UINT64_MAX};
+    hvpm_page_run run;
+    memset(&run, 0xA5, sizeof run);
+    holds("the root's pool", is_run(1, HVPM_FIRST, (hvpm_page_run){0, 16, 1}));
+    holds("what is left of it", is_run(1, 0, (hvpm_page_run){1, 15, 1}) &&
+                                    is_run(1, 14, (hvpm_page_run){15, 1, 1}));
+    holds("its loose pages", is_run(1, 15, (hvpm_page_run){16, 4, 0}) &&
+                                 is_run(1, 19, (hvpm_page_run){30, 34, 0}) &&
+                                 is_run(1, 25, (hvpm_page_run){30, 34, 0}));
+    holds("another's pages", is_run(2, HVPM_FIRST, (hvpm_page_run){20, 10, 1}) &&
+                                 is_run(2, 28, (hvpm_page_run){29, 1, 1}));
+    for (size_t i = 0; i < sizeof beyond / sizeof *beyond; i++)
+        holds("no page is beyond", hvpm_page_after(&machine, 1, beyond[i], &run) == HVPM_STATUS_NONE);
+    for (uint64_t partition = 3; partition < 6; partition++)
+        holds("others have none",
+              hvpm_page_after(&machine, partition, HVPM_FIRST, &run) == HVPM_STATUS_NONE);
+    holds("nothing is written of no run", is_untouched(&run, sizeof run));
+}
+
 static void look_at_ports(void) {
     hvpm_port port;
     hvpm_connection connection;
@@ -287,6 +347,8 @@ int main(void) {
     look_at_children();
     look_at_pages();
     look_at_ports();
+    list_numbers();
+    list_pages();
     look_at_table();
     look_at_features();
     holds("that no look is counted", machine.events == events);

@@ -38,12 +38,19 @@ int main() {
     uint64_t child = 0;
     holds(hvpm_create_partition(second, root, 0, &child, &reply, nullptr, 0) == HVPM_STATUS_OK && child == 2,
           "functions of hvpm.h take it");
+    hvpm_record record = {};
+    second.record(&record);
+    holds(hvpm_take_interrupt(second, root, &reply, nullptr, 0) == HVPM_STATUS_OK && record.audit.len > 0 &&
+              record.script.len == sizeof "1.0 interrupt\n" - 1,
+          "it records");
+    second.record(nullptr);
+    hvpm_record_free(&record);
     const hvpm::machine &look = second;
     uint64_t next = 0;
     holds(hvpm_child_after(look, 1, 0, &next) == HVPM_STATUS_OK && next == 2, "looks take it");
     holds(first.boot({0xf700000064, 8, 4, 1}) == HVPM_STATUS_OK, "an empty one boots");
     first = std::move(second);
-    holds(first.events() == 3 && second.events() == 0, "both are there after an exchange");
+    holds(first.events() == 4 && second.events() == 0, "both are there after an exchange");
     second.destroy();
     holds(second.hypercall(root, {0x46, 0, 0}, reply) == HVPM_STATUS_EMPTY, "it is gone");
     return 0;

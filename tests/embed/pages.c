@@ -26,7 +26,7 @@ enum {
 };
 
 static hvpm_machine machine = HVPM_EMPTY;
-static uint64_t events; /* that this program and the functions of the header made, as counted here */
+static hvpm_record record;
 
 static _Noreturn void fail(const char *what) {
     fprintf(stderr, "%s\n", what);
@@ -40,7 +40,6 @@ static void holds(const char *what, bool is_so) {
 /* An event that is taken, whatever it is answered. */
 static void taken(uint32_t status) {
     holds("an event is taken", status == HVPM_STATUS_OK);
-    events++;
 }
 
 static void served(const char *what, uint32_t status, const hvpm_reply *reply) {
@@ -74,19 +73,14 @@ static uint32_t sint_of(uint32_t vector) {
     return vector % 16;
 }
 
-/* The header tells each event that it makes, with its line of the audit. */
-static void record(void *context, hvpm_caller by, enum hvpm_access event, uint32_t number, uint64_t value,
-                   const hvpm_reply *reply, const char *line) {
-    static const char *const names[] = {"", "wrmsr", "", "clearslot", "", "clearflag", "interrupt"};
-    char wanted[64];
-    (void)number, (void)value;
-    events++;
-    if (machine.events > 20000 && machine.events % 64 != 0) return;
-    snprintf(wanted, sizeof wanted, "%" PRIu64 " %" PRIu64 ".%" PRIu32 " %s", machine.events, by.partition,
-             by.vp, names[event]);
-    holds("the line of a recorded event",
-          strncmp(line, wanted, strlen(wanted)) == 0 && reply->line_len > strlen(wanted));
-    holds("the context of a recorded event", context == &events && machine.events == events);
+/* Whether each event is in the record with its line, those that the header made in a guest's place, too. */
+static void all_are_recorded(void) {
+    uint64_t number = 0;
+    const char *const end = record.audit.at + record.audit.len;
+    for (const char *at = record.audit.at; at < end; at = (const char *)memchr(at, '\n', (size_t)(end - at)) + 1)
+        holds("the number of a recorded event", strtoull(at, NULL, 10) == ++number);
+    holds("each event is recorded", !record.is_cut && number == machine.events);
+    hvpm_record_free(&record);
 }
 
 /* After an event: all pages, the vectors that were raised, and who may post again. */
@@ -167,8 +161,8 @@ static void set_up(void) {
     static const hvpm_config config = {.mask = 0xf700000064, .pages = 64, .pool = 32, .vps = 1};
     hvpm_reply reply;
     uint64_t guest = 0, pages[24];
+    machine.record = &record;
     holds("boot", hvpm_boot(&machine, &config) == HVPM_STATUS_OK);
-    events = 0;
     memset(processors, 0, sizeof processors);
     memset(memory, 0, sizeof memory);
     served("a guest", hvpm_create_partition(&machine, root, 0, &guest, &reply, NULL, 0), &reply);
@@ -184,7 +178,6 @@ static void set_up(void) {
     for (uint32_t i = 0; i < PROCESSORS; i++) {
         struct processor *self = &processors[i];
         self->pages.of = i == 0 ? root : (hvpm_caller){guest, i - 1};
-        self->pages.record = record, self->pages.context = &events;
         self->random = 0x9e3779b9u * (i + 1);
         if (i > 0)
             served("a processor", hvpm_create_vp(&machine, root, guest, i - 1, &reply, NULL, 0), &reply);
@@ -427,7 +420,7 @@ static void cases(void) {
     flag_cases();
     all_flags_cases();
     processor_cases();
-    holds("each event was told", machine.events == events);
+    all_are_recorded();
     hvpm_destroy(&machine);
 }
 
@@ -582,8 +575,8 @@ static void threads(uint64_t messages, uint64_t flags) {
     for (size_t i = 0; i < PROCESSORS; i++) pthread_join(processors[i].thread, NULL);
     holds("as many arrived as were sent", got[0] == wanted[0] && got[1] == wanted[1]);
     nothing_is_left();
-    holds("each event was told", machine.events == events);
-    printf("%" PRIu64 " messages, %" PRIu64 " flags, %" PRIu64 " events\n", got[0], got[1], events);
+    all_are_recorded();
+    printf("%" PRIu64 " messages, %" PRIu64 " flags, %" PRIu64 " events\n", got[0], got[1], machine.events);
     hvpm_destroy(&machine);
 }
 

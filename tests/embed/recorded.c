@@ -1,7 +1,8 @@
 /*
- * Events as lines of a script: a run that is recorded, and each line's text. The words are SCRIPT and AUDIT,
- * the files for the recording and for the audit that the library hands back, which `hvpm run SCRIPT --serial`
- * must print, too. The texts are those of "Script" in docs/POLICY.md. What is wrong goes to standard error.
+ * Events as lines of a script and in words: a run that is recorded, and each line's text. The words are
+ * SCRIPT, AUDIT and WORDS, the files for the recording, and for the audit and the explanations that the library
+ * hands back, which `hvpm run SCRIPT --serial` and `hvpm explain SCRIPT` must print, too. The texts are those
+ * of "Script" in docs/POLICY.md. What is wrong goes to standard error.
  */
 #include "hvpm.h"
 
@@ -23,7 +24,8 @@ static const hvpm_caller root = {1, 0}, second = {1, 1}, guest = {2, 1}, nobody 
 
 static hvpm_machine machine = HVPM_EMPTY;
 static hvpm_reply reply;
-static FILE *script, *audit;
+static FILE *script, *audit, *words;
+static char text[HVPM_EXPLANATION];
 
 /* Keeps the audit's line of the event before. */
 static void keep(uint32_t status, const char *line) {
@@ -31,70 +33,95 @@ static void keep(uint32_t status, const char *line) {
     holds("its line is kept", fwrite(line, 1, reply.line_len, audit) == reply.line_len);
 }
 
+/* Keeps an explanation of the event before, with the number and the processor that `hvpm explain` prints. */
+static void tell(hvpm_caller by, uint32_t status, size_t len) {
+    holds("an event is explained", status == HVPM_STATUS_OK && len > 0);
+    fprintf(words, "%" PRIu64 " %" PRIu64 ".%" PRIu32 " %.*s\n", machine.events, by.partition, by.vp, (int)len,
+            text);
+}
+
 /* Records a hypercall, and takes it to its last element. */
 static void call(hvpm_caller by, uint64_t rcx, uint64_t rdx, uint64_t r8, const void *input,
                  size_t input_len) {
     hvpm_registers registers = {rcx, rdx, r8};
-    char text[HVPM_CALL_LINE], line[HVPM_LINE];
+    char written[HVPM_CALL_LINE], line[HVPM_LINE];
     size_t len;
-    holds("a call's line is told",
-          hvpm_hypercall_line(by, &registers, input, input_len, text, sizeof text, &len) == HVPM_STATUS_OK);
-    holds("a call's line is recorded", fwrite(text, 1, len, script) == len);
+    holds("a call's line is told", hvpm_hypercall_line(by, &registers, input, input_len, written,
+                                                       sizeof written, &len) == HVPM_STATUS_OK);
+    holds("a call's line is recorded", fwrite(written, 1, len, script) == len);
     do {
         keep(hvpm_hypercall(&machine, by, &registers, input, input_len, &reply, line, sizeof line), line);
+        const uint32_t status = hvpm_explain(&machine, by, &registers, input, input_len, &reply, text,
+                                             sizeof text, &len);
+        tell(by, status, len);
         registers.rcx = hvpm_next(registers.rcx, &reply);
     } while (reply.kind == HVPM_REPLY_MORE);
 }
 
 /* Records an access. Which one it is, is known to the caller, who takes it then. */
 static void record(hvpm_caller by, uint32_t access, uint32_t number, uint64_t value) {
-    char text[HVPM_EVENT_LINE];
+    char written[HVPM_EVENT_LINE];
     size_t len;
     holds("an access's line is told",
-          hvpm_access_line(by, access, number, value, text, sizeof text, &len) == HVPM_STATUS_OK);
-    holds("an access's line is recorded", fwrite(text, 1, len, script) == len);
+          hvpm_access_line(by, access, number, value, written, sizeof written, &len) == HVPM_STATUS_OK);
+    holds("an access's line is recorded", fwrite(written, 1, len, script) == len);
+}
+
+/* Explains the access before. */
+static void explain(hvpm_caller by, uint32_t access, uint32_t number, uint64_t value) {
+    size_t len = 0;
+    const uint32_t status =
+        hvpm_explain_access(&machine, by, access, number, value, &reply, text, sizeof text, &len);
+    tell(by, status, len);
 }
 
 static void read_msr(hvpm_caller by, uint32_t msr) {
     char line[HVPM_LINE];
     record(by, HVPM_READ_MSR, msr, 0);
     keep(hvpm_read_msr(&machine, by, msr, &reply, line, sizeof line), line);
+    explain(by, HVPM_READ_MSR, msr, 0);
 }
 
 static void write_msr(hvpm_caller by, uint32_t msr, uint64_t value) {
     char line[HVPM_LINE];
     record(by, HVPM_WRITE_MSR, msr, value);
     keep(hvpm_write_msr(&machine, by, msr, value, &reply, line, sizeof line), line);
+    explain(by, HVPM_WRITE_MSR, msr, value);
 }
 
 static void read_slot(hvpm_caller by, uint8_t sint) {
     char line[HVPM_LINE];
     record(by, HVPM_READ_SLOT, sint, 0);
     keep(hvpm_read_slot(&machine, by, sint, &reply, line, sizeof line), line);
+    explain(by, HVPM_READ_SLOT, sint, 0);
 }
 
 static void clear_slot(hvpm_caller by, uint8_t sint) {
     char line[HVPM_LINE];
     record(by, HVPM_CLEAR_SLOT, sint, 0);
     keep(hvpm_clear_slot(&machine, by, sint, &reply, line, sizeof line), line);
+    explain(by, HVPM_CLEAR_SLOT, sint, 0);
 }
 
 static void read_flags(hvpm_caller by, uint8_t sint) {
     char line[HVPM_LINE];
     record(by, HVPM_READ_FLAGS, sint, 0);
     keep(hvpm_read_flags(&machine, by, sint, &reply, line, sizeof line), line);
+    explain(by, HVPM_READ_FLAGS, sint, 0);
 }
 
 static void clear_flag(hvpm_caller by, uint8_t sint, uint16_t flag) {
     char line[HVPM_LINE];
     record(by, HVPM_CLEAR_FLAG, sint, flag);
     keep(hvpm_clear_flag(&machine, by, sint, flag, &reply, line, sizeof line), line);
+    explain(by, HVPM_CLEAR_FLAG, sint, flag);
 }
 
 static void take_interrupt(hvpm_caller by) {
     char line[HVPM_LINE];
     record(by, HVPM_TAKE_INTERRUPT, 0, 0);
     keep(hvpm_take_interrupt(&machine, by, &reply, line, sizeof line), line);
+    explain(by, HVPM_TAKE_INTERRUPT, 0, 0);
 }
 
 /* A rep call's RCX: its code and how many elements there are. */
@@ -279,13 +306,14 @@ static void accesses(void) {
 }
 
 int main(int argc, char **argv) {
-    if (argc != 3) return 2;
+    if (argc != 4) return 2;
     script = fopen(argv[1], "wb");
     audit = fopen(argv[2], "wb");
-    if (!script || !audit) return 1;
+    words = fopen(argv[3], "wb");
+    if (!script || !audit || !words) return 1;
     run();
     calls();
     accesses();
-    holds("the files are written", fclose(script) == 0 && fclose(audit) == 0);
+    holds("the files are written", fclose(script) == 0 && fclose(audit) == 0 && fclose(words) == 0);
     return wrong;
 }

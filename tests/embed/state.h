@@ -182,6 +182,47 @@ static void look_partition(uint64_t id, partition_seen *to) {
     look_links(to);
 }
 
+typedef uint32_t next_number(const hvpm_machine *, uint64_t, uint32_t, uint32_t *);
+
+/* The next number of a list is the wanted one. */
+static void want_next(next_number *after, uint64_t partition, uint32_t *number, uint32_t wanted) {
+    must(is_shown(after(machine, partition, *number, number)) && *number == wanted, "a list lacks a number");
+}
+
+/* There is no further one. */
+static void want_end(next_number *after, uint64_t partition, uint32_t number) {
+    must(!is_shown(after(machine, partition, number, &number)), "a list has a number too many");
+}
+
+/* The lists of a partition have what was seen one by one. */
+static void look_lists(const state *of, const partition_seen *at) {
+    uint32_t vp = HVPM_FIRST, port = HVPM_FIRST, connection = HVPM_FIRST;
+    uint64_t last = HVPM_FIRST, pooled = 0;
+    hvpm_page_run run = {0, 0, 0};
+    for (size_t i = 0; i < of->vps; i++)
+        if (of->vp[i].at.partition == at->id)
+            want_next(hvpm_vp_after, at->id, &vp, of->vp[i].at.vp);
+    for (uint32_t id = 0; id < LINKS; id++) {
+        if (at->has_port[id]) want_next(hvpm_port_after, at->id, &port, id);
+        if (at->has_connection[id]) want_next(hvpm_connection_after, at->id, &connection, id);
+    }
+    want_end(hvpm_vp_after, at->id, vp);
+    want_end(hvpm_port_after, at->id, port);
+    want_end(hvpm_connection_after, at->id, connection);
+    for (uint64_t page = 0; page < PAGES; page++) {
+        const bool is_in = page >= run.page && page < run.page + run.count;
+        if (of->owners[page] == at->id && !is_in) {
+            must(is_shown(hvpm_page_after(machine, at->id, last, &run)), "a page isn't listed");
+            must(run.page == page && run.count > 0, "another page is listed");
+            last = page + run.count - 1;
+            if (run.pooled) pooled += run.count;
+        }
+        must(of->owners[page] == at->id || !is_in, "another's page is listed");
+    }
+    must(!is_shown(hvpm_page_after(machine, at->id, last, &run)), "a page too many is listed");
+    must(pooled == at->row.pooled, "the pool has other pages");
+}
+
 /* The table, of which one block after another is refused first. */
 static void look_table(state *to) {
     uint32_t status = HVPM_STATUS_MEMORY;
@@ -211,6 +252,7 @@ static void look(state *to) {
     }
     for (uint64_t page = 0; page < PAGES; page++)
         must(is_shown(hvpm_page_owner(machine, page, &to->owners[page])), "a page has no owner");
+    for (size_t i = 0; i < to->partitions; i++) look_lists(to, &to->partition[i]);
     look_table(to);
 }
 
