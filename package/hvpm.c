@@ -8,3 +8,4 @@
 
 #include "hvpm_guest.h"
 #include "hvpm_pages.h"
+#include "hvpm_route.h"

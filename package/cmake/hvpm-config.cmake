@@ -4,8 +4,8 @@ get_filename_component(_hvpm_prefix "${CMAKE_CURRENT_LIST_DIR}/../../.." ABSOLUT
 if(NOT TARGET hvpm::hvpm)
   add_library(hvpm::hvpm SHARED IMPORTED)
   set_target_properties(hvpm::hvpm PROPERTIES
-    IMPORTED_LOCATION "${_hvpm_prefix}/lib/libhvpm.so.1"
-    IMPORTED_SONAME "libhvpm.so.1"
+    IMPORTED_LOCATION "${_hvpm_prefix}/lib/libhvpm.so.@SERIES@"
+    IMPORTED_SONAME "libhvpm.so.@SERIES@"
     INTERFACE_INCLUDE_DIRECTORIES "${_hvpm_prefix}/include"
     INTERFACE_COMPILE_DEFINITIONS "HVPM_NO_INLINE")
 

@@ -6,18 +6,21 @@ _hvpm() {
         [[ $word == -* ]] || { command=$word; break; }
     done
     case $command in
-        "") words="run check explain trace serve draw asm help --help --version" ;;
-        run) words="--serial --table --help" ;;
-        check) words="--prefix --no-rules --help" ;;
-        trace) words="--perfetto --help" ;;
+        "") words="run check explain trace report serve draw asm help --help --version" ;;
+        run) words="--serial --table --names --help" ;;
+        check) words="--prefix --no-rules --json --names --help" ;;
+        explain | report) words="--names --help" ;;
+        trace) words="--perfetto --names --help" ;;
         serve) words="--json --help" ;;
-        draw) words="--at --sequence --help" ;;
-        explain | asm) words="--help" ;;
-        help) words="run check explain trace serve draw asm help" ;;
+        draw) words="--at --sequence --names --help" ;;
+        asm) words="--help" ;;
+        help) words="run check explain trace report serve draw asm help" ;;
     esac
+    # The number behind --at is typed by hand.
+    [[ ${COMP_WORDS[COMP_CWORD-1]} != --at ]] || { COMPREPLY=(); return; }
     mapfile -t COMPREPLY < <(compgen -W "$words" -- "$current")
     case $command in
-        run | check | explain | trace | draw | asm)
+        run | check | explain | trace | report | draw | asm)
             [[ $current == -* ]] || mapfile -t COMPREPLY < <(compgen -f -- "$current")
             ;;
     esac
