@@ -11,6 +11,13 @@ word all seven run.
 
 prints what each crate's proof, tests and wrong edits took in the gate, as .ci/times noted it in FILE.
 
+    bench/tables.py growth [POOLS REGISTERS MESSAGES]
+    bench/tables.py plots [--check]
+
+write bench/growth.tsv, the instructions of an event as what is there grows, of what bench/pools.sh,
+bench/registers.sh and bench/messages.sh print, or printed before into these files; and docs/pictures/growth.svg
+from it. With --check nothing is written: the status is 1 if the picture isn't that of its data.
+
     bench/tables.py build
 
 times a new clone of the repository: compiling and running the program unproved, proving it, and the gate.
@@ -19,6 +26,7 @@ That takes hours.
 A first line names the machine and the toolchain. A cell that the output has no figure for is -. The status is
 1 where a benchmark fails, and 2 where the words are wrong.
 """
+import math
 import os
 import pathlib
 import platform
@@ -227,6 +235,101 @@ def minutes(seconds):
     return f"{seconds:.0f} s" if seconds < 120 else f"{seconds / 60:.0f} min"
 
 
+# ---- Growth ----
+
+DATA, PLOTS = ROOT / "bench" / "growth.tsv", ROOT / "docs" / "pictures" / "growth.svg"
+HEAD = "plot\tcurve\tx\tinstructions an event\n"
+# The plots, and of each curve its name and the titles of its parts, with x for the number.
+CURVES = {
+    "pages": (("pools", "in order", r"x pages"), ("pools", "every second page", r"every second of x pages"),
+              ("pools", "in a random order", r"\d+ of x pages in a random order")),
+    "processors or partitions": (
+        ("registers", "registers: VPs of the root", r"processors of the root: x"),
+        ("registers", "registers: partitions", r"partitions beside the root: x"),
+        ("messages", "messages: VPs of the root", r"processors of the root, with 100 ports of each kind: x"),
+        ("messages", "messages: partitions", r"partitions beside the root: x")),
+    "ports, or stored messages": (("messages", "ports of each kind", r"ports of each kind at one processor: x"),
+                                  ("messages", "messages at the VP", r"kept messages at the processor: x")),
+}
+COLORS = ("#0969da", "#bf8700", "#1a7f37", "#cf222e")
+
+
+def growth(texts):
+    """The lines of bench/growth.tsv, of what the three scripts printed."""
+    lines = HEAD
+    for plot, curves in CURVES.items():
+        for script, curve, title in curves:
+            for name, part in parts_of(texts[script]).items():
+                name = re.sub(r", \d+ events$", "", name)
+                found = re.fullmatch(title.replace("x", r"(\d+)", 1), name)
+                if found and part.instructions is not None:
+                    lines += f"{plot}\t{curve}\t{found[1]}\t{part.instructions}\n"
+    return lines
+
+
+def plotted(text):
+    """The picture of bench/growth.tsv: a plot beside the other, with x by its logarithm and y from 0."""
+    rows = [line.split("\t") for line in text.splitlines()[1:]]
+    wide, high, gap, below = 250, 170, 74, 24 + 18 * max(map(len, CURVES.values()))
+    parts = []
+    for i, plot in enumerate(CURVES):
+        points = [(curve, int(x), int(y)) for name, curve, x, y in rows if name == plot]
+        xs = sorted({x for _, x, _ in points})
+        most = max(y for _, _, y in points)
+        step = 10 ** (len(str(most)) - 1)
+        top = -(-most // step) * step
+        low, span = math.log(xs[0]), math.log(xs[-1]) - math.log(xs[0]) or 1
+        left, bottom = 60 + i * (wide + gap), 34 + high
+
+        def at(x, y):
+            return f"{left + wide * (math.log(x) - low) / span:.1f} {bottom - high * y / top:.1f}"
+
+        parts.append(f'<text class="bold" x="{left}" y="20">{plot}</text>')
+        for part in range(5):
+            y = bottom - high * part / 4
+            parts.append(f'<path class="grid" d="M{left} {y:.1f}h{wide}"/>'
+                         f'<text class="soft end" x="{left - 6}" y="{y + 4:.1f}">{top * part // 4:,}</text>')
+        for x in (xs[0], xs[-1]):
+            parts.append(f'<text class="soft mid" x="{at(x, 0).split()[0]}" y="{bottom + 16}">{x:,}</text>')
+        for k, (_, curve, _) in enumerate(CURVES[plot]):
+            mine = sorted((x, y) for name, x, y in points if name == curve)
+            if not mine:
+                continue
+            parts.append(f'<path class="curve" stroke="{COLORS[k]}" d="M{" ".join(at(x, y) for x, y in mine)}"/>')
+            for x, y in mine:
+                where = at(x, y).split()
+                parts.append(f'<circle fill="{COLORS[k]}" cx="{where[0]}" cy="{where[1]}" r="3"/>')
+            y = bottom + 36 + 18 * k
+            parts.append(f'<path class="curve" stroke="{COLORS[k]}" d="M{left} {y - 4}h22"/>'
+                         f'<text x="{left + 28}" y="{y}">{curve}</text>')
+    width, height = 60 + 3 * wide + 2 * gap + 20, 34 + high + below + 12
+    return (f'<svg xmlns="http://www.w3.org/2000/svg" viewBox="0 0 {width} {height}" width="{width}" '
+            f'height="{height}" role="img">\n<title>Instructions an event, as what is there grows</title>\n<style>'
+            ":root{--ink:#1f2328;--soft:#59636e;--line:#d1d9e0}\n@media (prefers-color-scheme:dark){:root{"
+            "--ink:#f0f6fc;--soft:#9198a1;--line:#3d444d}}\ntext{font:13px Helvetica,Arial,sans-serif;"
+            "fill:var(--ink)}.soft{fill:var(--soft);font-size:11px}.bold{font-weight:bold}.end{text-anchor:end}"
+            ".mid{text-anchor:middle}\n.grid{stroke:var(--line);fill:none}.curve{fill:none;stroke-width:2}</style>\n"
+            + "\n".join(parts) + "\n</svg>\n")
+
+
+def plots(words):
+    """Makes the data or the picture, and returns the status."""
+    if words[0] == "growth":
+        names = ("pools", "registers", "messages")
+        texts = {name: pathlib.Path(path).read_text() for name, path in zip(names, words[1:])}
+        for name in names[len(texts):]:
+            texts[name] = subprocess.run([ROOT / "bench" / f"{name}.sh"], check=True, stdout=subprocess.PIPE,
+                                         text=True).stdout
+        DATA.write_text(growth(texts))
+    made = plotted(DATA.read_text())
+    if words[1:] != ["--check"]:
+        PLOTS.write_text(made)
+    elif PLOTS.read_text() != made:
+        print("docs/pictures/growth.svg isn't that of bench/growth.tsv: run bench/tables.py plots")
+        return 1
+    return 0
+
+
 def machine():
     """The machine and the toolchain, in one line."""
     def first(pattern, path):
@@ -251,6 +354,8 @@ def main():
     if words == ["--help"]:
         print(__doc__.strip())
         return 0
+    if words in (["plots"], ["plots", "--check"], ["growth"]) or words[:1] == ["growth"] and len(words) == 4:
+        return plots(words)
     if words[:1] == ["gate"] and len(words) == 2:
         print(machine())
         print()

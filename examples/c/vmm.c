@@ -36,16 +36,20 @@ static struct vcpu {
 } vcpus[GUESTS];
 
 static hvpm_machine machine = HVPM_EMPTY;
+static hvpm_record record; /* of the guests' events */
 
 static void need(bool is_so, const char *what) {
     if (!is_so) printf("%s\n", what), exit(1);
 }
 
-/* Shows the audit's line of an event that hvpm_pages.h makes in a guest's place. */
-static void record(void *context, hvpm_caller by, enum hvpm_access event, uint32_t number, uint64_t value,
-                   const hvpm_reply *reply, const char *line) {
-    (void)context, (void)by, (void)event, (void)number, (void)value;
-    printf("    audit %.*s", (int)reply->line_len, line);
+/* Shows the audit lines of the events since the last call, of those in a guest's place, too. */
+static void show(void) {
+    for (const char *at = record.audit.at, *const end = at + record.audit.len; at < end;) {
+        const char *next = (const char *)memchr(at, '\n', (size_t)(end - at)) + 1;
+        printf("    audit %.*s", (int)(next - at), at);
+        at = next;
+    }
+    record.script.len = record.audit.len = 0;
 }
 
 static void *guest_memory(struct vcpu *vcpu, uint64_t address, size_t size) {
@@ -82,9 +86,11 @@ static void after(const hvpm_effect *effect) {
     if (!at) return;
     need(hvpm_pages_after(&machine, &at->pages, effect) == HVPM_STATUS_OK, "a page isn't up to date");
     for (uint8_t v; hvpm_pages_vector(&machine, &at->pages, &v) == HVPM_STATUS_OK && v != 0;
-         at->is_halted = false)
+         at->is_halted = false) {
+        show();
         printf("    inject 0x%02x at %" PRIu64 ".0%s\n", v, at->pages.of.partition,
                at->is_halted ? " and wake it" : "");
+    }
 }
 
 /* Frees what the receiver of a post freed in its page. The input begins with the id of the connection. */
@@ -100,7 +106,7 @@ static void before_post(const struct vcpu *from, const uint8_t *input) {
  * These guests may only post and signal. docs/EMBEDDING.md also serves calls
  * that have an output or elements.
  */
-static uint32_t hypercall(struct vcpu *vcpu, const hvpm_registers *at, hvpm_reply *reply, char *line) {
+static uint32_t hypercall(struct vcpu *vcpu, const hvpm_registers *at, hvpm_reply *reply) {
     const size_t size = at->rcx >> 16 & 1 ? 0 : PAGE - at->rdx % PAGE;
     const void *from = guest_memory(vcpu, at->rdx, size);
     uint8_t input[PAGE];
@@ -108,7 +114,7 @@ static uint32_t hypercall(struct vcpu *vcpu, const hvpm_registers *at, hvpm_repl
         return *reply = (hvpm_reply){.result = 4}, HVPM_STATUS_OK;
     if (from) memcpy(input, from, size);
     if (from && size >= 4 && (at->rcx & 0xFFFF) == HVPM_CALL_POST_MESSAGE) before_post(vcpu, input);
-    return hvpm_hypercall(&machine, vcpu->pages.of, at, input, from ? size : 0, reply, line, HVPM_LINE);
+    return hvpm_hypercall(&machine, vcpu->pages.of, at, input, from ? size : 0, reply, NULL, 0);
 }
 
 static void handle(struct vcpu *vcpu, const struct step *exit) {
@@ -116,18 +122,15 @@ static void handle(struct vcpu *vcpu, const struct step *exit) {
     uint64_t value = exit->rdx;
     uint32_t status, msr = (uint32_t)exit->rcx;
     hvpm_reply reply;
-    char line[HVPM_LINE];
     if (exit->reason == WRMSR) before(vcpu);
-    if (exit->reason == RDMSR)
-        status = hvpm_read_msr_value(&machine, by, msr, &value, &reply, line, sizeof line);
-    else if (exit->reason == WRMSR)
-        status = hvpm_write_msr(&machine, by, msr, value, &reply, line, sizeof line);
-    else status = hypercall(vcpu, &(hvpm_registers){exit->rcx, exit->rdx, 0}, &reply, line);
+    if (exit->reason == RDMSR) status = hvpm_read_msr_value(&machine, by, msr, &value, &reply, NULL, 0);
+    else if (exit->reason == WRMSR) status = hvpm_write_msr(&machine, by, msr, value, &reply, NULL, 0);
+    else status = hypercall(vcpu, &(hvpm_registers){exit->rcx, exit->rdx, 0}, &reply);
     /* out of memory, a VMM may leave RIP at the call */
     need(status == HVPM_STATUS_OK, "the library takes no event");
-    if (reply.line_len != 0) printf("    audit %.*s", (int)reply.line_len, line);
     if (exit->reason == WRMSR) move(vcpu);
     after(&reply.effect);
+    show();
     if (reply.kind == HVPM_REPLY_FAULT)
         printf("    inject #GP, since P%" PRIu32 " doesn't hold\n", reply.rule);
     else if (exit->reason == RDMSR) printf("    EDX:EAX %016" PRIx64 "\n", value);
@@ -193,7 +196,7 @@ static void boot(void) {
         for (int i = 0; i < 6; i++, page++)
             done(hvpm_deposit_memory(&machine, root, id, &page, 1, 0, &reply, NULL, 0), &reply);
         done(hvpm_create_vp(&machine, root, id, 0, &reply, NULL, 0), &reply);
-        vcpus[id - 2].pages = (hvpm_pages){.of = {id, 0}, .record = record};
+        vcpus[id - 2].pages = (hvpm_pages){.of = {id, 0}};
         vcpus[id - 2].rip = id == 2 ? receiver : sender;
     }
     for (uint32_t type = HVPM_PORT_MESSAGES; type <= HVPM_PORT_EVENTS; type++) {
@@ -207,6 +210,7 @@ static void boot(void) {
 
 int main(void) {
     boot();
+    machine.record = &record;
     for (size_t turn = 0; !vcpus[0].is_halted || !vcpus[1].is_halted; turn++)
         for (struct vcpu *vcpu = &vcpus[turn % GUESTS]; !vcpu->is_halted; vcpu->rip++) {
             printf("%" PRIu64 ".0 %s\n", vcpu->pages.of.partition, vcpu->rip->what);
@@ -215,6 +219,7 @@ int main(void) {
             else handle(vcpu, vcpu->rip);
         }
     printf("events %" PRIu64 "\n", machine.events);
+    hvpm_record_free(&record);
     hvpm_destroy(&machine);
     return 0;
 }

@@ -91,7 +91,6 @@ static struct vcpu *create(uint64_t partition, uint32_t vp) {
     while (v < vcpus + VCPUS && (v->state != FREE || v->on)) v++;
     if (v == vcpus + VCPUS) stop("too many processors", vp);
     *v = (struct vcpu){.state = CREATED, .of = partition_of(partition), .pages.of = {partition, vp}};
-    if (is_recording()) v->pages.record = keep_access;
     return v;
 }
 
@@ -148,7 +147,7 @@ static void skip(struct vcpu *vcpu, unsigned len) { vcpu->vmcb->rip += len, vcpu
 
 static void serve_cpuid(struct vcpu *vcpu) {
     uint32_t leaf = (uint32_t)vcpu->r[RAX], a = leaf, b = 0, c = 0, d = 0, leaves[4];
-    if (hvpm_guest_cpuid(leaf, mask_of(vcpu), leaves))
+    if (hvpm_guest_cpuid(leaf, mask_of(vcpu), 0, leaves))
         a = leaves[0], b = leaves[1], c = leaves[2], d = leaves[3];
     else if (leaf <= 1 || (leaf >= 0x80000000 && leaf <= 0x80000008))
         __asm__ volatile("cpuid" : "+a"(a), "=b"(b), "+c"(c), "=d"(d));
@@ -164,8 +163,6 @@ static void serve_cpuid(struct vcpu *vcpu) {
 /* Answers false where the guest is given #GP. */
 static bool access_msr(struct vcpu *vcpu, bool writes, uint32_t msr, uint64_t *value) {
     static const uint8_t code[] = {0x0F, 0x01, 0xD9, 0xC3}; /* vmmcall; ret */
-    static char line[HVPM_LINE];
-    const size_t room = is_recording() ? sizeof line : 0;
     const hvpm_caller by = vcpu->pages.of;
     hvpm_guest *const own = &vcpu->of->own;
     uint8_t *const page = guest_memory(vcpu, *value & ~UINT64_C(4095));
@@ -176,9 +173,8 @@ static bool access_msr(struct vcpu *vcpu, bool writes, uint32_t msr, uint64_t *v
     if (access == HVPM_GUEST_CODE) memcpy(page, code, sizeof code);
     if (access != HVPM_GUEST_MACHINE) return access == HVPM_GUEST_DONE || access == HVPM_GUEST_CODE;
     if (msr == MSR_EOM) before();
-    if (writes) MUST(hvpm_write_msr(&machine, by, msr, *value, &reply, line, room));
-    else MUST(hvpm_read_msr_value(&machine, by, msr, value, &reply, line, room));
-    keep_access(NULL, by, writes ? HVPM_WRITE_MSR : HVPM_READ_MSR, msr, *value, &reply, line);
+    if (writes) MUST(hvpm_write_msr(&machine, by, msr, *value, &reply, NULL, 0));
+    else MUST(hvpm_read_msr_value(&machine, by, msr, value, &reply, NULL, 0));
     if (writes && (msr == MSR_SIMP || msr == MSR_SIEFP)) place_pages(vcpu);
     after(&reply.effect);
     return reply.kind == HVPM_REPLY_SERVED;
@@ -211,20 +207,14 @@ static void set_register(const uint8_t *input, size_t index) {
  * memory lacks, the status isn't OK, and the guest calls again. */
 static uint64_t call_machine(struct vcpu *vcpu, hvpm_registers *at, const uint8_t *input, size_t len,
                              uint8_t *output) {
-    static char line[HVPM_LINE], text[HVPM_CALL_LINE];
-    const size_t room = is_recording() ? sizeof line : 0;
     const hvpm_caller by = vcpu->pages.of;
     hvpm_reply reply = {.kind = HVPM_REPLY_MORE};
-    size_t text_len = 0, kept = len;
-    while (kept > 0 && input[kept - 1] == 0) kept--; /* bytes that are missing read as zero */
-    if (room != 0) MUST(hvpm_hypercall_line(by, at, input, kept, text, sizeof text, &text_len));
     before();
     while (reply.kind == HVPM_REPLY_MORE) {
         const size_t index = at->rcx >> 48 & 0xFFF;
-        LIBRARY(hvpm_hypercall(&machine, by, at, input, len, &reply, line, room));
+        LIBRARY(hvpm_hypercall(&machine, by, at, input, len, &reply, NULL, 0));
         if (status == HVPM_STATUS_MEMORY) return 0;
         must();
-        if (room != 0) keep_line(text, text_len, line, reply.line_len), text_len = 0;
         if (output) memcpy(output + index * reply.output_len, reply.output, reply.output_len);
         after(&reply.effect);
         if ((uint16_t)at->rcx == SET_VP_REGISTERS && reply.rule == 0) set_register(input, index);
@@ -299,8 +289,7 @@ void serve_exit(struct vcpu *vcpu) {
 void make_root(void) {
     extern const uint8_t guest_image[], guest_image_end[];
     const hvpm_config config = {.mask = 0xF700000064, .pages = PAGES, .pool = 128, .vps = 1};
-    print(SCRIPT, "boot %u %u %u 0x%x %u\n", (uint64_t)config.pages, (uint64_t)config.pool,
-          (uint64_t)config.vps, config.mask, (uint64_t)UINT32_MAX);
+    start_record();
     MUST(hvpm_boot(&machine, &config));
     for (uint64_t page = 0; page < PAGES; page++) map_page(partition_of(1), page, true);
     hvpm_put(memory_of(1), 0x2067, 8), hvpm_put(memory_of(2), 0x3067, 8);

@@ -91,10 +91,7 @@ enum { LOG = 0x3F8, SCRIPT = 0x2F8, AUDIT = 0x3E8 };  /* serial ports */
 void print(uint16_t serial, const char *format, ...); /* %s, and %u and %x of 64 bits */
 void guest_says(struct vcpu *vcpu, char byte);
 void kick(const struct processor *processor);
-bool is_recording(void);
-void keep_line(const char *script, size_t script_size, const char *audit, size_t audit_size);
-void keep_access(void *unused, hvpm_caller by, enum hvpm_access access, uint32_t number, uint64_t value,
-                 const hvpm_reply *reply, const char *line);
+void start_record(void);
 _Noreturn void stop(const char *why, uint64_t number);
 _Noreturn void finish(void);
 

@@ -105,32 +105,26 @@ void *realloc(void *at, size_t len) {
 
 /* ---- the record: events as a script, and the audit, each by a serial port of its own ---- */
 
-static bool is_over;
-static uint64_t script_len, audit_lines;
+static hvpm_record record;
+static uint64_t script_len;
 
-bool is_recording(void) { return !is_over; }
-void keep_line(const char *script, size_t script_size, const char *audit, size_t audit_size) {
-    for (size_t i = 0; i < script_size; i++) put(SCRIPT, script[i]);
-    for (size_t i = 0; i < audit_size; i++) put(AUDIT, audit[i]);
-    script_len += script_size, audit_lines++;
-}
-void keep_access(void *unused, hvpm_caller by, enum hvpm_access access, uint32_t number, uint64_t value,
-                 const hvpm_reply *reply, const char *line) {
-    char text[HVPM_EVENT_LINE];
-    size_t len;
-    (void)unused;
-    if (is_over) return;
-    if (hvpm_access_line(by, access, number, value, text, sizeof text, &len)) stop("no record", number);
-    keep_line(text, len, line, reply->line_len);
+void start_record(void) { machine.record = &record; }
+static void keep_text(hvpm_text *text, uint16_t serial) {
+    for (size_t i = 0; i < text->len; i++) put(serial, text->at[i]);
+    text->len = 0;
 }
 
 /* A script has at most 1 MiB, so the record is the first part of a long run. It has each rep call whole. */
-static void bound_record(bool is_end) {
-    if (is_over || (!is_end && audit_lines < RECORDED && script_len < SCRIPT_MAX)) return;
-    is_over = true;
-    for (struct vcpu *v = vcpus; v < vcpus + VCPUS; v++) v->pages.record = NULL;
-    print(AUDIT, "events %u\n", audit_lines);
-    print(LOG, "the record has the first %u events\n", audit_lines);
+static void keep_record(bool is_end) {
+    if (!machine.record) return;
+    if (record.is_cut) stop("no record", machine.events);
+    script_len += record.script.len;
+    keep_text(&record.script, SCRIPT), keep_text(&record.audit, AUDIT);
+    if (!is_end && machine.events < RECORDED && script_len < SCRIPT_MAX) return;
+    machine.record = NULL;
+    hvpm_record_free(&record);
+    print(AUDIT, "events %u\n", machine.events);
+    print(LOG, "the record has the first %u events\n", machine.events);
 }
 
 /* ---- processors ---- */
@@ -209,13 +203,13 @@ _Noreturn static void run(struct processor *me) {
         cost.locking += rdtsc() - at_exit, cost.exits++;
         if (v->state == READY) serve_exit(v);
         else v->on = NULL; /* it was deleted meanwhile */
-        bound_record(false);
+        keep_record(false);
     }
 }
 
 /* The root is done. The pages are where the library has them. */
 _Noreturn void finish(void) {
-    bound_record(true);
+    keep_record(true);
     for (uint64_t page = 0, owner; page < PAGES; page++)
         if (hvpm_page_owner(&machine, page, &owner) || owner_of(page)->id != owner)
             stop("a page is lost", page);

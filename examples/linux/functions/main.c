@@ -31,7 +31,9 @@ int hv_call_get_partition_property(u64 partition, u64 code, u64 *value);
 
 /* ---- The record ---- */
 
+extern hvpm_record record;
 void record_start(void);
+void record_keep(void);
 void record_end(uint64_t events);
 void note(const char *format, ...) __attribute__((format(printf, 1, 2)));
 
@@ -107,6 +109,7 @@ static u64 call(u64 control, u64 rdx, u64 r8) {
                    reply.output_len);
         if (reply.kind == HVPM_REPLY_MORE) at.rcx = hvpm_next(at.rcx, &reply);
     }
+    record_keep();
     hvpm_guest_return(&cpu, reply.result);
     return cpu.rax;
 }
@@ -205,6 +208,7 @@ int main(void) {
     const hvpm_config config = {.mask = 0xf700000064, .pages = PAGES, .pool = POOL, .vps = 1};
     input = page_address(alloc_page(GFP_KERNEL)), output = page_address(alloc_page(GFP_KERNEL));
     record_start();
+    machine.record = &record;
     if (hvpm_boot(&machine, &config) != HVPM_STATUS_OK) abort();
     run();
     note("%lu events, %sas they must be", (unsigned long)machine.events, has_failed ? "NOT " : "");

@@ -41,4 +41,9 @@ struct hvpm_interrupt {
     uint32_t vp;
     uint8_t vector, has_auto_eoi;
 };
+
+/* In QEMU's process. */
+/* Who serves an exit, without the big lock. NULL: all is as without these files. */
+extern struct hvpm_entry (*hvpm_serve)(unsigned vp, const struct hvpm_exit *exit);
+void hvpm_inject(struct hvpm_interrupt of); /* with the big lock */
 #endif

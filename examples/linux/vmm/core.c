@@ -74,6 +74,7 @@ hvpm_machine *core_enter(void) {
 void core_leave(uint32_t status, const hvpm_reply *reply) {
     must(status);
     if (reply) deliver(&reply->effect);
+    record_keep();
     pthread_mutex_unlock(&lock);
 }
 
@@ -134,7 +135,10 @@ bool core_write_msr(struct vcpu *vcpu, uint32_t msr, uint64_t value) {
     return is_served(&reply);
 }
 
-void core_boot(const hvpm_config *config) { must(hvpm_boot(&machine, config)); }
+void core_boot(const hvpm_config *config) {
+    machine.record = &record;
+    must(hvpm_boot(&machine, config));
+}
 
 uint64_t core_end(void) {
     pthread_mutex_lock(&lock); /* for good: whoever still has an exit waits */

@@ -1,7 +1,7 @@
 /*
  * What the parts of the VMM share. core.c calls the library, identity.c answers CPUID and the VMM's own MSRs,
- * vmbus.c is the root's side of VMBus, kvm.c and tcg.c run a guest's processors, record.c keeps the audit,
- * and main.c starts all of it.
+ * exit.c takes an exit of QEMU's, root.c is the root's processor, vmbus.c its side of VMBus, kvm.c and tcg.c
+ * run a guest's processors, record.c keeps the audit, and main.c starts all of it.
  */
 #ifndef CORE_H
 #define CORE_H
@@ -13,10 +13,17 @@ enum {
     MSR_SCONTROL = 0x40000080, MSR_SIEFP = 0x40000082, MSR_SIMP = 0x40000083, MSR_EOM = 0x40000084,
     MSR_SINT0 = 0x40000090
 };
-enum { HV_CALL_SET_VP_REGISTERS = 0x51, HV_CALL_ADD_LOGICAL_PROCESSOR = 0x76 };
+enum { HV_CALL_SET_VP_REGISTERS = 0x51 };
+/* Calls of a root that the machine doesn't have. */
+enum {
+    HV_CALL_ADD_LOGICAL_PROCESSOR = 0x76, HV_CALL_MAP_DEVICE_INTERRUPT = 0x7C,
+    HV_CALL_UNMAP_DEVICE_INTERRUPT = 0x7D
+};
 enum { HV_STATUS_INSUFFICIENT_BUFFERS = 0x13 };
 
 struct guest;
+struct hvpm_entry;
+struct hvpm_exit;
 struct kvm_run;
 
 /* A virtual processor. */
@@ -84,9 +91,23 @@ bool identity_rdmsr(struct vcpu *vcpu, uint32_t msr, uint64_t *value);
 bool identity_wrmsr(struct vcpu *vcpu, uint32_t msr, uint64_t value);
 bool identity_hypercall(struct vcpu *vcpu, hvpm_guest_cpu *cpu);
 void identity_reset(struct guest *guest);
+/* An exit in QEMU, of any of the four kinds (tcg/exits.h). */
+struct hvpm_entry take_exit(struct vcpu *vcpu, const struct hvpm_exit *exit);
+
+/* The root, where it isn't a Linux. */
+#define ROOT ((hvpm_caller){1, 0})
+enum { ROOT_MESSAGES = 2, ROOT_EVENTS = 3 }; /* the SINTs of its processor */
+void root_start(const struct engine *engine); /* turns its SynIC on */
+/* Makes a child with its processors, whose pool pays for so many ports and connections. */
+void root_add(struct guest *guest, unsigned more);
+/* Makes a port and its peer's connection to it, and removes both. */
+void root_connect(const hvpm_port *port, uint32_t connection);
+void root_disconnect(const hvpm_port *port, uint32_t connection);
+const hvpm_slot *root_message(void); /* what its slot shows, or NULL */
+void root_let_go(void);              /* of that */
+uint8_t root_flags(unsigned byte);   /* takes eight event flags */
 
 /* The root's side of VMBus. */
-#define ROOT ((hvpm_caller){1, 0})
 void vmbus_start(void);
 void vmbus_add(struct guest *guest);
 void vmbus_reset(struct guest *guest);
@@ -95,7 +116,9 @@ void vmbus_has_room(const struct guest *guest);
 bool vmbus_is_done(void);  /* the children did all that the options ask of them */
 
 /* The record of a run: its audit, and its events as a script. Lines of guests, core and VMM in one log. */
-void record_start(void); /* into the working directory */
+extern hvpm_record record; /* of the machine */
+void record_start(void);   /* into the working directory */
+void record_keep(void);    /* after events, with the machine's lock */
 void record_end(uint64_t events);
 void say_guest(const struct guest *guest, const char *text);
 void note(const char *format, ...) __attribute__((format(printf, 1, 2)));

@@ -15,7 +15,7 @@ static uint64_t enter_for_mask(const struct guest *guest) {
 }
 
 bool identity_cpuid(struct guest *guest, uint32_t index, uint32_t leaf[4]) {
-    const bool is_leaf = hvpm_guest_cpuid(index, enter_for_mask(guest), leaf);
+    const bool is_leaf = hvpm_guest_cpuid(index, enter_for_mask(guest), 0, leaf);
     core_leave(HVPM_STATUS_OK, NULL);
     return is_leaf;
 }
@@ -49,6 +49,30 @@ bool identity_wrmsr(struct vcpu *vcpu, uint32_t msr, uint64_t value) {
     }
 }
 
+/* What the IOAPIC or a device of a root is to send for an interrupt. They are the root's own here, so it is
+ * what the root asks for: a vector at the lowest processor of a set, which Linux gives as one bank of 64. */
+static void map_interrupt(const uint8_t *input, uint8_t *output) {
+    const bool is_ioapic = input[15] >> 6 == 2, is_set = (input[60] & 2) != 0;
+    const uint64_t vector = input[56], vps = hvpm_number(input + (is_set ? 80 : 64));
+    const uint64_t vp = vps == 0 ? 0 : (uint64_t)__builtin_ctzll(vps);
+    hvpm_put(output, is_ioapic ? 2 : 1, 8);
+    hvpm_put(output + 8, is_ioapic ? vp << 56 | vector : vector << 32 | 0xFEE00000 | vp << 12, 8);
+}
+
+/* A call of a root that isn't the machine's. Answers whether it was one; another is the machine's to deny. */
+static bool serve_root(struct guest *root, const hvpm_registers *call) {
+    switch ((uint16_t)call->rcx) {
+    case HV_CALL_ADD_LOGICAL_PROCESSOR: note("HvAddLogicalProcessor is the VMM's"); return true;
+    case HV_CALL_MAP_DEVICE_INTERRUPT:
+        if (call->rdx > root->ram_size - 88 || call->r8 > root->ram_size - 16) return false;
+        note("HvMapDeviceInterrupt is the VMM's: vector 0x%x", root->ram[call->rdx + 56]);
+        map_interrupt(root->ram + call->rdx, root->ram + call->r8);
+        return true;
+    case HV_CALL_UNMAP_DEVICE_INTERRUPT: return true;
+    default: return false;
+    }
+}
+
 /* The input list is copied up to the end of its page, before the lock: no list crosses a page, and the guest
  * may write meanwhile. A list that isn't in the guest's memory is this VMM's to refuse. */
 static uint64_t serve_call(struct vcpu *vcpu, const hvpm_registers *call) {
@@ -56,10 +80,7 @@ static uint64_t serve_call(struct vcpu *vcpu, const hvpm_registers *call) {
     const struct guest *guest = vcpu->guest;
     const bool reads = hvpm_guest_has_input(call), writes = hvpm_guest_has_output(call);
     const size_t len = reads ? PAGE - call->rdx % PAGE : 0, room = writes ? PAGE - call->r8 % PAGE : 0;
-    if ((uint16_t)call->rcx == HV_CALL_ADD_LOGICAL_PROCESSOR && guest->id == 1) {
-        note("HvAddLogicalProcessor is the VMM's: the machine has no such call");
-        return 0;
-    }
+    if (guest->id == 1 && serve_root(vcpu->guest, call)) return 0;
     if ((reads && call->rdx >= guest->ram_size) || (writes && call->r8 >= guest->ram_size))
         return hvpm_guest_no_list(call);
     if (reads) memcpy(input, guest->ram + call->rdx, len);

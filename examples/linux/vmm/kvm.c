@@ -48,13 +48,18 @@ static void put_code(struct vcpu *vcpu, uint64_t at) {
     memcpy(vcpu->guest->ram + at, code, sizeof code);
 }
 
-/* The guest is given #UD at its OUT. KVM first ends the instruction, and is then led back. */
-static void undefined(struct vcpu *vcpu, struct kvm_regs *at) {
-    struct kvm_vcpu_events events;
+/* Leads the guest back to its OUT, with these registers: KVM first ends the instruction. */
+static void lead_back(struct vcpu *vcpu, struct kvm_regs *at) {
     vcpu->run->immediate_exit = 1;
     (void)ioctl(vcpu->fd, KVM_RUN, 0);
     vcpu->run->immediate_exit = 0;
     ASK(vcpu->fd, KVM_SET_REGS, at);
+}
+
+/* The guest is given #UD at its OUT. */
+static void undefined(struct vcpu *vcpu, struct kvm_regs *at) {
+    struct kvm_vcpu_events events;
+    lead_back(vcpu, at);
     ASK(vcpu->fd, KVM_GET_VCPU_EVENTS, &events);
     events.exception.injected = 1, events.exception.nr = 6, events.exception.has_error_code = 0;
     ASK(vcpu->fd, KVM_SET_VCPU_EVENTS, &events);

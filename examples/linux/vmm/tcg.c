@@ -41,19 +41,8 @@ static void *serve_exits(void *of) {
     struct vcpu *vcpu = of;
     struct hvpm_exit exit;
     while (recv(vcpu->fd, &exit, sizeof exit, 0) == sizeof exit) {
-        hvpm_guest_cpu cpu = {exit.rax, exit.rbx, exit.rcx,       exit.rdx,          exit.rsi,
-                              exit.rdi, exit.r8,  exit.is_64_bit, exit.is_protected, exit.cpl};
-        struct hvpm_entry entry = {0};
-        vcpu->code_at = 0;
         reset_first(vcpu->guest);
-        switch (exit.kind) {
-        case HVPM_CPUID: (void)identity_cpuid(vcpu->guest, exit.number, entry.leaf); break;
-        case HVPM_RDMSR: entry.served = identity_rdmsr(vcpu, exit.number, &entry.value); break;
-        case HVPM_WRMSR: entry.served = identity_wrmsr(vcpu, exit.number, exit.value); break;
-        case HVPM_HYPERCALL: entry.served = identity_hypercall(vcpu, &cpu); break;
-        }
-        entry.rax = cpu.rax, entry.rdx = cpu.rdx;
-        entry.code_at = vcpu->code_at;
+        const struct hvpm_entry entry = take_exit(vcpu, &exit);
         if (send(vcpu->fd, &entry, sizeof entry, MSG_NOSIGNAL) != sizeof entry) break;
     }
     return NULL;

@@ -29,17 +29,12 @@ static const char *const names[NAMES] = {
     "GPADL_TORNDOWN", "RELID_RELEASED", "INITIATE_CONTACT", "VERSION_RESPONSE", "UNLOAD", "UNLOAD_RESPONSE"};
 enum { VERSION_5_2 = 0x50002 };
 
-/* The root's SINTs. The child's is 2, which Linux turns on at each processor, and all comes to
- * processor 0, which it names. */
-enum { SINT_MESSAGES = 2, SINT_EVENTS = 3, VECTOR = 0x30, CHILD_SINT = 2 };
+/* The child's SINT, which Linux turns on at each processor, and all comes to processor 0, which it names. */
+enum { CHILD_SINT = 2 };
 
 /* Ports and connections: a child's have small numbers, and the root's of child N
  * are these and N times 0x100. */
 enum { MESSAGES_OLD = 1, MESSAGES = 4, TO_CHILD = 2, SIGNAL_CHILD = 3, EVENT = 0x10 };
-/* PostMessages, SignalEvents, AccessVpIndex, AccessHypercallMsrs and AccessSynicRegs.
- * A new partition lacks AccessHypercallMsrs, and Linux then doesn't take the hypervisor for Hyper-V. */
-#define CHILD_MASK UINT64_C(0x3000000064)
-
 enum { HEARTBEAT = 1, SHUTDOWN = 2, CHANNELS = 3, OUTBOX = 512 };
 
 /* How many messages, and how many packets of a channel, the root serves before it looks at the other guests:
@@ -73,7 +68,6 @@ static pthread_mutex_t bus_lock = PTHREAD_MUTEX_INITIALIZER;
 
 /* ---- the root's processor ---- */
 
-static uint8_t root_pages[3 * PAGE] __attribute__((aligned(4096)));
 static sem_t raised;
 
 static void wake(struct vcpu *vcpu, uint8_t vector, bool has_auto_eoi) {
@@ -85,67 +79,38 @@ void vmbus_has_room(const struct guest *guest) {
     sem_post(&raised);
 }
 
-/* Takes the message from the slot as a guest does, and writes EOM where another one waits. */
+/* Takes the message from the slot. */
 static bool take_message(uint8_t message[256]) {
-    uint8_t *slot = root_pages + PAGE + 256 * SINT_MESSAGES;
-    if (__atomic_load_n((uint32_t *)slot, __ATOMIC_ACQUIRE) == 0) return false;
-    message[4] = slot[4];
-    memcpy(message + 8, slot + 8, 248); /* not the flags, where MessagePending may be set meanwhile */
-    __atomic_store_n((uint32_t *)slot, 0, __ATOMIC_SEQ_CST);
-    if (__atomic_load_n(slot + 5, __ATOMIC_SEQ_CST) & 1) core_write_msr(&guests[0].vcpu[0], MSR_EOM, 0);
+    const hvpm_slot *slot = root_message();
+    if (!slot) return false;
+    message[4] = slot->size;
+    memcpy(message + 8, (const uint8_t *)slot + 8, 248); /* not the flags, where MessagePending may be set meanwhile */
+    root_let_go();
     return true;
-}
-
-static uint8_t take_flags(unsigned byte) {
-    return __atomic_exchange_n(root_pages + 2 * PAGE + 256 * SINT_EVENTS + byte, 0, __ATOMIC_SEQ_CST);
 }
 
 /* ---- calls of the root ---- */
 
-static hvpm_reply reply; /* of the root's thread, and of main before that */
-
-/* A call that must be served, in a critical section of its own: CALL(hvpm_create_vp, id, vp). */
-#define CALL(function, ...) must_serve(#function, function(core_enter(), ROOT, __VA_ARGS__, &reply, NULL, 0))
-
-static void must_serve(const char *what, uint32_t status) {
-    core_leave(status, &reply);
-    if (reply.kind == HVPM_REPLY_DENIED)
-        die("%s is denied by rule P%" PRIu32 ", with status 0x%" PRIx64, what, reply.rule, reply.result);
-}
+static hvpm_reply reply; /* of the root's thread */
 
 static void port(uint64_t of, uint32_t id, uint64_t peer, uint32_t type, uint32_t sint, uint16_t base,
                  uint16_t count, uint32_t connection) {
     const hvpm_port made = {.partition = of, .id = id, .peer = peer, .type = type, .sint = sint, .vp = 0,
                             .base_flag = base, .flag_count = count};
-    const hvpm_connection to = {
-        .partition = peer, .id = connection, .port_partition = of, .port = id, .type = type};
-    CALL(hvpm_create_port, &made);
-    CALL(hvpm_connect_port, &to);
+    root_connect(&made, connection);
 }
 
-/* Makes a child: its mask, its pool, its processors; and each port that VMBus
- * needs, with the connection to it. */
+/* Makes a child, and each port that VMBus needs, with the connection to it. */
 void vmbus_add(struct guest *guest) {
-    const unsigned n = (unsigned)(guest - guests), count = 8 + 4 * guest->vps;
-    uint64_t pages[8 + 4 * MAX_VPS];
-    CALL(hvpm_create_partition, 0, &guest->id);
-    CALL(hvpm_set_partition_property, guest->id, HVPM_PRIVILEGE_FLAGS, CHILD_MASK);
-    for (unsigned i = 0; i < count; i++) pages[i] = 64 * n + 64 + i;
-    for (unsigned at = 0; at < count; at++)
-        CALL(hvpm_deposit_memory, guest->id, pages, (uint16_t)count, (uint16_t)at);
-    CALL(hvpm_initialize_partition, guest->id);
-    for (uint32_t vp = 0; vp < guest->vps; vp++) {
-        CALL(hvpm_create_vp, guest->id, vp);
-        guest->vcpu[vp].guest = guest;
-        guest->vcpu[vp].pages.of = (hvpm_caller){guest->id, vp};
-    }
+    const unsigned n = (unsigned)(guest - guests);
+    root_add(guest, 8);
     /* A guest posts by connection 1, and from version 5.0 on by that which the host names. */
-    port(1, 0x100 * n + MESSAGES_OLD, guest->id, HVPM_PORT_MESSAGES, SINT_MESSAGES, 0, 0, MESSAGES_OLD);
-    port(1, 0x100 * n + MESSAGES, guest->id, HVPM_PORT_MESSAGES, SINT_MESSAGES, 0, 0, MESSAGES);
+    port(1, 0x100 * n + MESSAGES_OLD, guest->id, HVPM_PORT_MESSAGES, ROOT_MESSAGES, 0, 0, MESSAGES_OLD);
+    port(1, 0x100 * n + MESSAGES, guest->id, HVPM_PORT_MESSAGES, ROOT_MESSAGES, 0, 0, MESSAGES);
     port(guest->id, TO_CHILD, 1, HVPM_PORT_MESSAGES, CHILD_SINT, 0, 0, 0x100 * n + TO_CHILD);
     port(guest->id, SIGNAL_CHILD, 1, HVPM_PORT_EVENTS, CHILD_SINT, 0, 2048, 0x100 * n + SIGNAL_CHILD);
     for (uint16_t id = 1; id < CHANNELS; id++) /* flag 8 * N + ID of the root is channel ID of child N */
-        port(1, 0x100 * n + EVENT + id, guest->id, HVPM_PORT_EVENTS, SINT_EVENTS, (uint16_t)(8 * n + id), 1,
+        port(1, 0x100 * n + EVENT + id, guest->id, HVPM_PORT_EVENTS, ROOT_EVENTS, (uint16_t)(8 * n + id), 1,
              EVENT + id);
     buses[n].guest = guest;
 }
@@ -322,7 +287,7 @@ static bool serve_channel(struct bus *bus, uint32_t id) {
 }
 
 static void serve_channels(struct bus *bus) {
-    bus->signalled |= take_flags((unsigned)(bus - buses));
+    bus->signalled |= root_flags((unsigned)(bus - buses));
     for (uint8_t id = 1; id < CHANNELS; id++)
         if (bus->signalled >> id & 1 && serve_channel(bus, id)) bus->signalled &= (uint8_t)~(1u << id);
     if (bus->signalled >> 1 != 0) sem_post(&raised); /* there may be more */
@@ -457,17 +422,9 @@ static void *root_thread(void *unused) {
     return unused;
 }
 
-/* Turns the root's SynIC on. */
 void vmbus_start(void) {
-    static struct vcpu *const vcpu = &guests[0].vcpu[0];
-    guests[0].engine = &root_engine, guests[0].ram = root_pages, guests[0].ram_size = sizeof root_pages;
-    vcpu->guest = &guests[0], vcpu->pages.of = ROOT;
     sem_init(&raised, 0, 0);
-    core_write_msr(vcpu, MSR_SIMP, PAGE | 1);
-    core_write_msr(vcpu, MSR_SIEFP, 2 * PAGE | 1);
-    core_write_msr(vcpu, MSR_SINT0 + SINT_MESSAGES, VECTOR);
-    core_write_msr(vcpu, MSR_SINT0 + SINT_EVENTS, VECTOR + 1);
-    core_write_msr(vcpu, MSR_SCONTROL, 1);
+    root_start(&root_engine);
     start_thread(root_thread, NULL);
 }
 
