@@ -4,3 +4,4 @@ pub mod Integrity
 pub mod BootedRoot
 pub mod SoundMachine
 pub mod Steps
+pub mod Plans

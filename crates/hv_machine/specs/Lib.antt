@@ -4,6 +4,7 @@ pub mod IsFlat
 pub mod MachineInvariant
 pub mod Masks
 pub mod Next
+pub mod Plan
 pub mod Sound
 pub mod State
 pub mod Step

@@ -1,36 +1,67 @@
 // Dispatches each call and each access to its call group.
-ghost use Rattle.std.specs.Prelude.{◌≡◌, ◌+◌, ◌-◌, ◌^◌, ◌<◌, []};
-ghost use Rattle.std.specs.Result.{result_map_both};
+ghost use Rattle.std.specs.Prelude.{◌≡◌, ◌+◌, ◌-◌, ◌^◌, ◌<◌, [], IfOk};
+ghost use Rattle.std.specs.Result.{result_err, result_map_both};
 ghost use Rattle.hv_defs.specs.declared.sizes.TheConstants.{MAX_SERVED};
 ghost use Rattle.hv_policy.specs.Call.{action_of};
 ghost use Rattle.hv_policy.specs.Flat.{Flat};
 ghost use Rattle.hv_refine.specs.Access.{IsAnswered};
-ghost use Rattle.hv_refine.specs.Done.{IsCalled};
-ghost use Rattle.hv_refine.specs.Served.{TreeInvariant};
+ghost use Rattle.hv_refine.specs.Asked.{AreFound, IsGranted};
+ghost use Rattle.hv_refine.specs.Done.{IsCalled, IsDone};
+ghost use Rattle.hv_refine.specs.Served.{TreeInvariant, unmet_further};
 ghost use Rattle.hv_refine.specs.Tie.{Refines};
 ghost use Rattle.hv_machine.specs.Next.{next_after as next_id_after};
+ghost use Rattle.hv_machine.specs.Plan.{IsPlanned};
+ghost use Rattle.hv_machine.specs.declared.dispatch.Plan.TheVariants as plan;
 
 use hv_calls::Call;
 use hv_effect::Effect;
 use hv_messages::{
-    clear_flag, clear_slot, post_message, read_flags, read_slot, signal_event, take_interrupt,
+    Aimed, ask_post, ask_signal, clear_flag, clear_slot, do_post, do_signal, read_flags, read_slot,
+    take_interrupt,
 };
 use hv_partition_calls::{
-    create_partition, delete_partition, deposit_memory, finalize_partition, get_memory_balance,
-    get_next_child_partition, get_partition_id, get_partition_property, initialize_partition,
-    set_partition_property, withdraw_memory,
+    Setting, ask_create_partition, ask_delete_partition, ask_deposit, ask_finalize,
+    ask_get_property, ask_initialize, ask_next_child, ask_set_property, ask_withdraw, do_balance,
+    do_create_partition, do_delete_partition, do_deposit, do_finalize, do_get_property,
+    do_initialize, do_next_child, do_own_id, do_set_property, do_withdraw,
 };
 use hv_policy::{Access, Caller, Output, Rule};
-use hv_port_calls::{NewPort, connect_port, create_port, delete_port, disconnect_port};
-use hv_processors::{
-    create_vp, delete_vp, get_vp_registers, read_msr, set_vp_registers, write_msr,
+use hv_port_calls::{
+    NewConnection, NewPort, ask_connect, ask_create_port, ask_delete_port, ask_disconnect,
+    do_connect, do_create_port, do_delete_port, do_disconnect,
 };
-use hv_refine::{CallError, Partitions};
-use std::alloc::Allocator;
+use hv_privs::Privileges;
+use hv_processors::{
+    ask_create_vp, ask_delete_vp, ask_get_registers, ask_set_registers, do_create_vp, do_delete_vp,
+    do_get_registers, do_set_registers, read_msr, write_msr,
+};
+use hv_refine::{Balance, CallError, Found, Partitions, admit, balance_of};
+use std::alloc::{AllocError, Allocator};
 
-// Dispatches a call for which P4 to P7 hold to its call group, which checks all other rules. The call appends
-// its output to `output`, which must be empty. `next` is the id that the next partition gets, and `served` is
-// the count of served events.
+// What the question of a call leaves for its deed.
+#[derive(Clone, Copy)]
+pub enum Plan {
+    // Nothing: the call's parameters are enough.
+    Plain,
+    // The mask of the new partition.
+    Mask(Privileges),
+    // The number of runs of the target's pages.
+    Runs(u64),
+    // The property to set, and how.
+    Setting(Setting),
+    // The page to move.
+    Page(u32),
+    // The balance to output.
+    Balance(Balance),
+    // The value to output, or the birth of the port.
+    Value(u64),
+    // Where a message or a flag goes.
+    Aim(Aimed),
+}
+
+// Serves a call for which P4 to P7 hold: admits it, asks its own rules, and does it. The call appends its
+// output to `output`, which must be empty. `next` is the id that the next partition gets, and `served` is the
+// count of served events.
 // Inlined: calls for the own id in bench/embed.sh.
 #[inline(always)]
 pub fn dispatch<A: Allocator + Clone>(
@@ -49,45 +80,210 @@ pub fn dispatch<A: Allocator + Clone>(
         → IsCalled f by call.now tree.old
         (result_map_both (λ effect. (output.new, effect)) (λ why. why) result) tree.new }
 {
+    let found = admit(tree, by, call)?;
+    let plan = ask(tree, by.part, found, call)?;
+    Ok(do_planned(tree, alloc, by.part, next, served, call, plan, output)?)
+}
+
+// Checks the own rules of a call, P11 to P24, and returns what its deed needs.
+// Inlined: calls for the own id in bench/embed.sh.
+#[inline(always)]
+fn ask<A: Allocator>(
+    tree: &Partitions<A>,
+    by: u64,
+    found: Found<'_, A>,
+    call: &Call<'_>,
+) -> Result<Plan, Rule>
+    requires rows { TreeInvariant tree.now }
+    requires found { AreFound tree.now by call.now found.need found.caller.now found.target.now
+        found.children }
+    ensures unmet { (f : Flat) → Refines tree.now f → result_err result ≡ unmet_further f by call.now }
+    ensures planned { IfOk result (IsPlanned tree.now by call.now) }
+{
     match *call {
-        Call::CreatePartition { flags } => create_partition(tree, alloc, by, next, flags, output),
-        Call::InitializePartition { partition } => initialize_partition(tree, by, partition),
-        Call::FinalizePartition { partition } => finalize_partition(tree, by, partition),
-        Call::DeletePartition { partition } => delete_partition(tree, by, partition),
-        Call::GetPartitionProperty { partition, code } => get_partition_property(
-            tree, by, partition, code, output,
-        ),
-        Call::SetPartitionProperty {
-            partition,
-            code,
-            value,
-        } => set_partition_property(tree, by, partition, code, value),
-        Call::GetPartitionId => get_partition_id(tree, by, output),
+        Call::CreatePartition { .. } => Ok(Plan::Mask(ask_create_partition(tree, by, found)?)),
+        Call::InitializePartition { .. } => plain(ask_initialize(found)),
+        Call::FinalizePartition { .. } => plain(ask_finalize(found)),
+        Call::DeletePartition { .. } => Ok(Plan::Runs(ask_delete_partition(found)?)),
+        Call::GetPartitionProperty { code, .. } => Ok(Plan::Value(ask_get_property(found, code)?)),
+        Call::SetPartitionProperty { code, value, .. } => Ok(Plan::Setting(ask_set_property(
+            found, code, value,
+        )?)),
+        Call::GetPartitionId => Ok(Plan::Plain),
         Call::GetNextChildPartition {
             partition,
             previous,
-        } => get_next_child_partition(tree, by, partition, previous, output),
-        Call::DepositMemory { partition, page } => deposit_memory(tree, by, partition, page),
-        Call::WithdrawMemory { partition } => withdraw_memory(tree, by, partition, output),
-        Call::GetMemoryBalance { partition } => get_memory_balance(tree, by, partition, output),
-        Call::CreateVp { partition, vp } => create_vp(tree, alloc, by, partition, vp),
-        Call::DeleteVp { partition, vp } => delete_vp(tree, by, partition, vp),
-        Call::GetVpRegisters {
-            partition,
+        } => plain(ask_next_child(tree, by, partition, previous)),
+        Call::DepositMemory { page, .. } => plain(ask_deposit(found, page)),
+        Call::WithdrawMemory { .. } => Ok(Plan::Page(ask_withdraw(found)?)),
+        Call::GetMemoryBalance { .. } => Ok(Plan::Balance(balance_of(
+            found.target,
+            found.children,
+        ))),
+        Call::CreateVp { vp, .. } => plain(ask_create_vp(found, vp)),
+        Call::DeleteVp { vp, .. } => plain(ask_delete_vp(found, vp)),
+        Call::GetVpRegisters { vp, name, .. } => Ok(Plan::Value(ask_get_registers(
+            found, vp, name,
+        )?)),
+        Call::SetVpRegisters {
             vp,
             name,
-        } => get_vp_registers(tree, by, partition, vp, name, output),
+            value,
+            ..
+        } => plain(ask_set_registers(found, vp, name, value)),
+        Call::DeletePort { port, .. } => plain(ask_delete_port(found, port)),
+        Call::DisconnectPort { connection, .. } => plain(ask_disconnect(found, connection)),
+        Call::CreatePort {
+            port,
+            peer,
+            kind,
+            sint,
+            vp,
+            base,
+            count,
+            ..
+        } => {
+            let new = NewPort {
+                port,
+                peer,
+                kind,
+                sint,
+                vp,
+                base,
+                count,
+            };
+            plain(ask_create_port(tree, by, found, new))
+        }
+        Call::ConnectPort {
+            partition,
+            connection,
+            port_partition,
+            port,
+            kind,
+        } => {
+            let new = NewConnection {
+                connection,
+                port_partition,
+                port,
+                kind,
+            };
+            Ok(Plan::Value(ask_connect(tree, by, found, partition, new)?))
+        }
+        Call::PostMessage { connection, .. } => Ok(Plan::Aim(ask_post(
+            tree,
+            found.caller,
+            connection,
+        )?)),
+        Call::SignalEvent { connection, flag } => Ok(Plan::Aim(ask_signal(
+            tree,
+            found.caller,
+            connection,
+            flag,
+        )?)),
+    }
+}
+
+// The plan of a call whose question leaves nothing.
+fn plain(asked: Result<(), Rule>) -> Result<Plan, Rule>
+    ensures unmet { result_err result ≡ result_err asked }
+    ensures planned { IfOk result (λ left. left ≡ plan.Plain) }
+{
+    match asked {
+        Ok(()) => Ok(Plan::Plain),
+        Err(rule) => Err(rule),
+    }
+}
+
+// Does a call whose rules hold, by what its question left.
+// Inlined: calls for the own id in bench/embed.sh.
+#[inline(always)]
+fn do_planned<A: Allocator + Clone>(
+    tree: &mut Partitions<A>,
+    alloc: &A,
+    caller: u64,
+    next: u64,
+    served: u64,
+    call: &Call<'_>,
+    plan: Plan,
+    output: &mut Output,
+) -> Result<Effect, AllocError>
+    requires rows { (t : TreeInvariant tree.old) × (t.flat.next ≡ next) }
+    requires granted { IsGranted tree.old caller call.now }
+    requires planned { IsPlanned tree.old caller call.now plan }
+    requires count { served < MAX_SERVED }
+    requires empty { output.old ≡ [] }
+    ensures { (f : Flat) → Refines tree.old f → f.next ≡ next → f.served ≡ served
+        → IsDone f caller call.now tree.old
+        (result_map_both (λ effect. (output.new, effect)) (λ why. why) result) tree.new }
+{
+    match *call {
+        Call::CreatePartition { .. } => {
+            let Plan::Mask(mask) = plan else {
+                unreachable!()
+            };
+            do_create_partition(tree, alloc, caller, next, mask, output)
+        }
+        Call::InitializePartition { partition } => Ok(do_initialize(tree, caller, partition)),
+        Call::FinalizePartition { partition } => Ok(do_finalize(tree, caller, partition)),
+        Call::DeletePartition { partition } => {
+            let Plan::Runs(runs) = plan else {
+                unreachable!()
+            };
+            do_delete_partition(tree, caller, partition, runs)
+        }
+        Call::GetPartitionProperty { .. } => {
+            let Plan::Value(value) = plan else {
+                unreachable!()
+            };
+            Ok(do_get_property(value, output))
+        }
+        Call::SetPartitionProperty {
+            partition,
+            value,
+            ..
+        } => {
+            let Plan::Setting(setting) = plan else {
+                unreachable!()
+            };
+            Ok(do_set_property(tree, caller, partition, setting, value))
+        }
+        Call::GetPartitionId => Ok(do_own_id(caller, output)),
+        Call::GetNextChildPartition {
+            partition,
+            previous,
+        } => Ok(do_next_child(tree, caller, partition, previous, output)),
+        Call::DepositMemory { partition, page } => do_deposit(tree, caller, partition, page),
+        Call::WithdrawMemory { partition } => {
+            let Plan::Page(page) = plan else {
+                unreachable!()
+            };
+            do_withdraw(tree, caller, partition, page, output)
+        }
+        Call::GetMemoryBalance { .. } => {
+            let Plan::Balance(balance) = plan else {
+                unreachable!()
+            };
+            Ok(do_balance(balance, output))
+        }
+        Call::CreateVp { partition, vp } => do_create_vp(tree, alloc, caller, partition, vp),
+        Call::DeleteVp { partition, vp } => Ok(do_delete_vp(tree, caller, partition, vp)),
+        Call::GetVpRegisters { .. } => {
+            let Plan::Value(value) = plan else {
+                unreachable!()
+            };
+            Ok(do_get_registers(value, output))
+        }
         Call::SetVpRegisters {
             partition,
             vp,
             name,
             value,
-        } => set_vp_registers(tree, by, partition, vp, name, value),
-        Call::DeletePort { partition, port } => delete_port(tree, by, partition, port),
+        } => Ok(do_set_registers(tree, caller, partition, vp, name, value)),
+        Call::DeletePort { partition, port } => Ok(do_delete_port(tree, caller, partition, port)),
         Call::DisconnectPort {
             partition,
             connection,
-        } => disconnect_port(tree, by, partition, connection),
+        } => Ok(do_disconnect(tree, caller, partition, connection)),
         Call::CreatePort {
             partition,
             port,
@@ -107,7 +303,7 @@ pub fn dispatch<A: Allocator + Clone>(
                 base,
                 count,
             };
-            create_port(tree, by, served, partition, new)
+            do_create_port(tree, caller, served, partition, new)
         }
         Call::ConnectPort {
             partition,
@@ -115,13 +311,34 @@ pub fn dispatch<A: Allocator + Clone>(
             port_partition,
             port,
             kind,
-        } => connect_port(tree, by, partition, connection, port_partition, port, kind),
+        } => {
+            let Plan::Value(born) = plan else {
+                unreachable!()
+            };
+            let new = NewConnection {
+                connection,
+                port_partition,
+                port,
+                kind,
+            };
+            do_connect(tree, caller, partition, new, born)
+        }
         Call::PostMessage {
             connection,
             message_type,
             ref payload,
-        } => post_message(tree, by, call, connection, message_type, payload),
-        Call::SignalEvent { connection, flag } => signal_event(tree, by, connection, flag),
+        } => {
+            let Plan::Aim(aimed) = plan else {
+                unreachable!()
+            };
+            do_post(tree, caller, connection, aimed, message_type, payload)
+        }
+        Call::SignalEvent { connection, flag } => {
+            let Plan::Aim(aimed) = plan else {
+                unreachable!()
+            };
+            Ok(do_signal(tree, caller, connection, aimed, flag))
+        }
     }
 }
 

@@ -17,19 +17,19 @@ use hv_ports::{Conn, Port};
 use hv_refine::{Partitions, has_target};
 use std::alloc::Allocator;
 
-// A resolved connection: the connection itself, and the port with the id that it keeps.
+/// A resolved connection: the connection itself, and the port with the id that it keeps.
 #[derive(Clone, Copy)]
 pub struct ResolvedPort {
     pub conn: Conn,
     pub port: Port,
 }
 
-// Where a message or an event flag through a connection goes.
+/// Where a message or an event flag through a connection goes.
 #[derive(Clone, Copy)]
 pub struct Aimed {
-    // The connection, and the port with the id that it keeps.
+    /// The connection, and the port with the id that it keeps.
     pub to: ResolvedPort,
-    // The processor that takes it, by its index in the port's partition.
+    /// The processor that takes it, by its index in the port's partition.
     pub vp: u32,
 }
 

@@ -2,11 +2,10 @@
 //! Interrupt Controller"): posting and signalling through a connection, and a processor's accesses to
 //! everything that arrived at its own SINTs.
 //!
-//! Each call and each access has one public function. That of a call looks the caller up by
-//! `hv_refine::admit`, asks (`ask_x` checks the call's own rules in the policy's order and returns where the
-//! message or the flag goes), and then does it (`do_x` reserves the room that it needs, changes the tree, and
-//! returns the effect). That of an access checks P1 to P3 by `hv_refine::caller_vp`. Its contract states the
-//! outcome in the policy's terms (`IsCalled` for a call, `IsAnswered` for an access).
+//! A call is asked, then done. `ask_x` checks the call's own rules on the caller that `hv_refine::admit`
+//! found, in the policy's order, and returns where the message or the flag goes. `do_x` requires that all
+//! rules hold. It reserves the room that it needs, changes the tree and returns the effect (`IsDone`). An
+//! access has one public function, which checks P1 to P3 by `hv_refine::caller_vp` (`IsAnswered`).
 #![tactic(auto)]
 
 mod aims;
@@ -17,8 +16,9 @@ mod post;
 mod signal;
 mod slots;
 
+pub use aims::{Aimed, ResolvedPort};
 pub use flags::{clear_flag, read_flags};
 pub use interrupts::take_interrupt;
-pub use post::post_message;
-pub use signal::signal_event;
+pub use post::{ask_post, do_post};
+pub use signal::{ask_signal, do_signal};
 pub use slots::{clear_slot, read_slot};

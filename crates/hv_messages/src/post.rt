@@ -5,7 +5,7 @@ ghost use Rattle.hv_calls.specs.declared.call.Call.TheVariants as call;
 ghost use Rattle.hv_defs.specs.declared.port_kind.PortKind.TheVariants as port_type;
 ghost use Rattle.hv_policy.specs.Flat.{Flat};
 ghost use Rattle.hv_policy.specs.Met.{is_kind};
-ghost use Rattle.hv_refine.specs.Done.{IsCalled, IsDone};
+ghost use Rattle.hv_refine.specs.Done.{IsDone};
 ghost use Rattle.hv_refine.specs.Served.{TreeInvariant, unmet_further};
 ghost use Rattle.hv_refine.specs.Tie.{Refines};
 ghost use Rattle.hv_tree.specs.Rows.{content};
@@ -13,42 +13,18 @@ ghost use Rattle.hv_messages.specs.ResolvedPort.{IsAimed, MayDeliver};
 
 use crate::aims::{Aimed, has_message_room, resolve_connection, select_vp};
 use crate::effects::posted;
-use hv_calls::{Call, Payload};
+use hv_calls::Payload;
 use hv_defs::PortKind;
 use hv_effect::Effect;
 use hv_mail::Message;
 use hv_partition::Partition;
-use hv_policy::{Caller, Rule};
+use hv_policy::Rule;
 use hv_ports::Port;
-use hv_refine::{CallError, Partitions, admit};
+use hv_refine::Partitions;
 use std::alloc::{AllocError, Allocator};
 
-/// HvPostMessage: posts a message at the SINT at which the connection's port aims. `asked` is the call
-/// itself.
-///
-/// The SINT is that of the processor at which the port aims, or for `Aim::Any` of the lowest processor
-/// that is ready for messages. The message goes behind those already at the SINT. If the SINT shows none,
-/// it then shows its oldest message and raises its vector.
-pub fn post_message<A: Allocator + Clone>(
-    tree: &mut Partitions<A>,
-    by: Caller,
-    asked: &Call<'_>,
-    connection: u32,
-    message_type: u32,
-    payload: &Payload<'_>,
-) -> Result<Effect, CallError>
-    requires rows { TreeInvariant tree.old }
-    requires call { asked.now ≡ call.PostMessage connection message_type payload.now }
-    ensures { (f : Flat) → Refines tree.old f → IsCalled f by asked.now tree.old
-        (result_map_both (λ effect. ([], effect)) (λ why. why) result) tree.new }
-{
-    let found = admit(tree, by, asked)?;
-    let aimed = ask_post(tree, found.caller, connection)?;
-    Ok(do_post(tree, by.part, connection, aimed, message_type, payload)?)
-}
-
-// Checks P16 to P23, and returns where the message goes.
-fn ask_post<A: Allocator>(
+/// Checks P16 to P23, and returns where the message goes.
+pub fn ask_post<A: Allocator>(
     tree: &Partitions<A>,
     caller: &Partition<A>,
     connection: u32,
@@ -87,9 +63,13 @@ fn is_for_messages(port: Port) -> bool
     }
 }
 
-// Reserves room for the message, and posts it.
+/// HvPostMessage: posts a message at the SINT at which the connection's port aims.
+///
+/// The SINT is that of the processor at which the port aims, or for `Aim::Any` of the lowest processor
+/// that is ready for messages. The message goes behind those already at the SINT. If the SINT shows none,
+/// it then shows its oldest message and raises its vector.
 #[tactic(auto, using(hv_tree::proofs::Laws::unchanged, hv_refine::proofs::UnchangedProcessor::same_vp))]
-fn do_post<A: Allocator + Clone>(
+pub fn do_post<A: Allocator + Clone>(
     tree: &mut Partitions<A>,
     caller: u64,
     connection: u32,

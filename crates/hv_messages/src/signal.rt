@@ -1,49 +1,27 @@
 // HvSignalEvent.
 ghost use Rattle.std.specs.Prelude.{◌≡◌, ◌&&◌, [], ℕ, nat_lt, None, Some, IfErr, IfOk};
-ghost use Rattle.std.specs.Result.{result_map_both};
 ghost use Rattle.hv_calls.specs.declared.call.Call.TheVariants as call;
 ghost use Rattle.hv_defs.specs.declared.port_kind.PortKind.TheVariants as port_type;
 ghost use Rattle.hv_policy.specs.Flat.{Flat};
 ghost use Rattle.hv_policy.specs.Met.{is_kind};
-ghost use Rattle.hv_refine.specs.Done.{HasServed, IsCalled};
-ghost use Rattle.hv_refine.specs.Served.{TreeInvariant, unmet_further};
+ghost use Rattle.hv_refine.specs.Done.{HasServed};
+ghost use Rattle.hv_refine.specs.Served.{unmet_further};
 ghost use Rattle.hv_refine.specs.Tie.{Refines};
 ghost use Rattle.hv_tree.specs.Rows.{content};
 ghost use Rattle.hv_messages.specs.ResolvedPort.{IsAimed, MayDeliver};
 
 use crate::aims::{Aimed, resolve_connection, select_vp};
 use crate::effects::signalled;
-use hv_calls::Call;
 use hv_defs::PortKind;
 use hv_effect::Effect;
 use hv_partition::Partition;
-use hv_policy::{Caller, Rule};
+use hv_policy::Rule;
 use hv_ports::Port;
-use hv_refine::{CallError, Partitions, admit};
+use hv_refine::Partitions;
 use std::alloc::Allocator;
 
-/// HvSignalEvent: sets an event flag of the SINT at which the connection's port aims.
-///
-/// `flag` counts from the port's first flag. The SINT is that of the processor at which the port aims, or
-/// for `Aim::Any` of the lowest processor that is ready for event flags. If the flag was clear, the SINT
-/// raises its vector.
-pub fn signal_event<A: Allocator>(
-    tree: &mut Partitions<A>,
-    by: Caller,
-    connection: u32,
-    flag: u16,
-) -> Result<Effect, CallError>
-    requires rows { TreeInvariant tree.old }
-    ensures { (f : Flat) → Refines tree.old f → IsCalled f by (call.SignalEvent connection flag) tree.old
-        (result_map_both (λ effect. ([], effect)) (λ why. why) result) tree.new }
-{
-    let found = admit(tree, by, &Call::SignalEvent { connection, flag })?;
-    let aimed = ask_signal(tree, found.caller, connection, flag)?;
-    Ok(do_signal(tree, by.part, connection, aimed, flag))
-}
-
-// Checks P16 to P22, and returns where the flag is.
-fn ask_signal<A: Allocator>(
+/// Checks P16 to P22, and returns where the flag is.
+pub fn ask_signal<A: Allocator>(
     tree: &Partitions<A>,
     caller: &Partition<A>,
     connection: u32,
@@ -75,9 +53,13 @@ fn has_flag(port: Port, flag: u16) -> bool
     }
 }
 
-// Sets the flag.
+/// HvSignalEvent: sets an event flag of the SINT at which the connection's port aims.
+///
+/// `flag` counts from the port's first flag. The SINT is that of the processor at which the port aims, or
+/// for `Aim::Any` of the lowest processor that is ready for event flags. If the flag was clear, the SINT
+/// raises its vector.
 #[tactic(auto, using(hv_tree::proofs::Laws::unchanged))]
-fn do_signal<A: Allocator>(
+pub fn do_signal<A: Allocator>(
     tree: &mut Partitions<A>,
     caller: u64,
     connection: u32,

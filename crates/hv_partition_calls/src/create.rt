@@ -9,45 +9,22 @@ ghost use Rattle.hv_policy.specs.Met.{is_depth_left as is_depth_left_of};
 ghost use Rattle.hv_privs.specs.Privileges.{restrict};
 ghost use Rattle.hv_privs.specs.declared.TheConstants.Privileges as privilege;
 ghost use Rattle.hv_refine.specs.Asked.{AreFound};
-ghost use Rattle.hv_refine.specs.Done.{IsCalled, IsDone};
+ghost use Rattle.hv_refine.specs.Done.{IsDone};
 ghost use Rattle.hv_refine.specs.Served.{TreeInvariant, unmet_further};
 ghost use Rattle.hv_refine.specs.Tie.{Refines};
 ghost use Rattle.hv_partition_calls.specs.Change.{CanInsert, MayCreate};
 
-use hv_calls::Call;
 use hv_defs::{Life, MAX_DEPTH};
 use hv_effect::Effect;
 use hv_partition::Partition;
-use hv_policy::{Caller, Output, Rule};
+use hv_policy::{Output, Rule};
 use hv_privs::Privileges;
-use hv_refine::{CallError, Found, Partitions, admit, balance_of};
+use hv_refine::{Found, Partitions, balance_of};
 use hv_tree::{IdTree, InsertRefused};
 use std::alloc::{AllocError, Allocator};
 
-/// HvCreatePartition: creates a partition with the id `next` below the caller, and outputs the id.
-///
-/// The new partition is Created and has no pages. It uses 2 pages of the caller's pool. The flags have no
-/// effect.
-pub fn create_partition<A: Allocator + Clone>(
-    tree: &mut Partitions<A>,
-    alloc: &A,
-    by: Caller,
-    next: u64,
-    flags: u64,
-    output: &mut Output,
-) -> Result<Effect, CallError>
-    requires rows { (t : TreeInvariant tree.old) × (t.flat.next ≡ next) }
-    requires empty { output.old ≡ [] }
-    ensures { (f : Flat) → Refines tree.old f → f.next ≡ next → IsCalled f by (call.CreatePartition flags)
-        tree.old (result_map_both (λ effect. (output.new, effect)) (λ why. why) result) tree.new }
-{
-    let found = admit(tree, by, &Call::CreatePartition { flags })?;
-    let mask = ask_create(tree, by.part, found)?;
-    Ok(do_create(tree, alloc, by.part, next, mask, output)?)
-}
-
-// Checks P14 and P24, and returns the mask of the new partition: the caller's, restricted.
-fn ask_create<A: Allocator>(
+/// Checks P14 and P24, and returns the mask of the new partition: the caller's, restricted.
+pub fn ask_create_partition<A: Allocator>(
     tree: &Partitions<A>,
     by: u64,
     found: Found<'_, A>,
@@ -94,8 +71,12 @@ fn depth<A: Allocator>(tree: &Partitions<A>, id: u64) -> Option<u64>
     tree.depth_of(id)
 }
 
-// Creates a partition below the caller, with this id and mask and without pages.
-fn do_create<A: Allocator + Clone>(
+/// HvCreatePartition: creates a partition with the id `next` and this mask below the caller, and outputs the
+/// id.
+///
+/// The new partition is Created and has no pages. It uses 2 pages of the caller's pool. The flags have no
+/// effect.
+pub fn do_create_partition<A: Allocator + Clone>(
     tree: &mut Partitions<A>,
     alloc: &A,
     caller: u64,

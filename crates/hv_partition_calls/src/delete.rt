@@ -7,38 +7,22 @@ ghost use Rattle.hv_pages.specs.PageSet.{runs_of};
 ghost use Rattle.hv_partition.specs.Partition.{PartitionState};
 ghost use Rattle.hv_policy.specs.Flat.{Flat};
 ghost use Rattle.hv_refine.specs.Asked.{AreFound};
-ghost use Rattle.hv_refine.specs.Done.{IsCalled, IsDone};
-ghost use Rattle.hv_refine.specs.Served.{TreeInvariant, unmet_further};
+ghost use Rattle.hv_refine.specs.Done.{IsDone};
+ghost use Rattle.hv_refine.specs.Served.{unmet_further};
 ghost use Rattle.hv_refine.specs.Tie.{Refines};
 ghost use Rattle.hv_tree.specs.Rows.{Rows};
 ghost use Rattle.hv_partition_calls.specs.Change.{HasFewPages, HasRoom, HasTakenOver, MayDelete, MayTakeOver};
 ghost use Rattle.hv_partition_calls.specs.Change.{effect_of_pages};
 
-use hv_calls::Call;
 use hv_effect::Effect;
 use hv_partition::{PageKind, Partition};
-use hv_policy::{Caller, Rule};
-use hv_refine::{CallError, Found, Partitions, admit, resolve_partition_id};
+use hv_policy::Rule;
+use hv_refine::{Found, Partitions, resolve_partition_id};
 use hv_tree::IdTree;
 use std::alloc::{AllocError, Allocator};
 
-/// HvDeletePartition: removes the target. All its pages become loose pages of the caller.
-pub fn delete_partition<A: Allocator>(
-    tree: &mut Partitions<A>,
-    by: Caller,
-    partition: u64,
-) -> Result<Effect, CallError>
-    requires rows { TreeInvariant tree.old }
-    ensures { (f : Flat) → Refines tree.old f → IsCalled f by (call.DeletePartition partition) tree.old
-        (result_map_both (λ effect. ([], effect)) (λ why. why) result) tree.new }
-{
-    let found = admit(tree, by, &Call::DeletePartition { partition })?;
-    let runs = ask_delete(found)?;
-    Ok(do_delete(tree, by.part, partition, runs)?)
-}
-
-// Checks P12, and returns the number of runs of the target's pages.
-fn ask_delete<A: Allocator>(found: Found<'_, A>) -> Result<u64, Rule>
+/// Checks P12, and returns the number of runs of the target's pages.
+pub fn ask_delete_partition<A: Allocator>(found: Found<'_, A>) -> Result<u64, Rule>
     requires { HasFewPages found.target.now }
     ensures unmet { (tree : Rows PartitionState) (f : Flat) (by partition : ℕ)
         → AreFound tree by (call.DeletePartition partition) found.entry.need found.entry.caller.now
@@ -54,9 +38,10 @@ fn ask_delete<A: Allocator>(found: Found<'_, A>) -> Result<u64, Rule>
     Ok(target.pages(PageKind::Loose).runs() + target.pages(PageKind::Pooled).runs())
 }
 
-// Removes the target and gives its pages to the caller. It reserves room by the number of their runs, not of
-// pages.
-fn do_delete<A: Allocator>(
+/// HvDeletePartition: removes the target. All its pages become loose pages of the caller.
+///
+/// It reserves room by the number of their runs, not of pages.
+pub fn do_delete_partition<A: Allocator>(
     tree: &mut Partitions<A>,
     caller: u64,
     partition: u64,

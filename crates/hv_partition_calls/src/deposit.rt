@@ -7,39 +7,20 @@ ghost use Rattle.hv_partition.specs.Partition.{PartitionState};
 ghost use Rattle.hv_policy.specs.Flat.{Flat};
 ghost use Rattle.hv_policy.specs.Met.{is_loose as is_loose_of};
 ghost use Rattle.hv_refine.specs.Asked.{AreFound, IsGranted};
-ghost use Rattle.hv_refine.specs.Done.{IsCalled, IsDone};
+ghost use Rattle.hv_refine.specs.Done.{IsDone};
 ghost use Rattle.hv_refine.specs.Served.{TreeInvariant, unmet_further};
 ghost use Rattle.hv_refine.specs.Tie.{Refines};
 ghost use Rattle.hv_tree.specs.Rows.{Rows, content};
 
 use crate::pages::move_page;
-use hv_calls::Call;
 use hv_effect::Effect;
 use hv_partition::{PageKind, Partition};
-use hv_policy::{Caller, Rule};
-use hv_refine::{CallError, Found, Partitions, admit, resolve_partition_id};
+use hv_policy::Rule;
+use hv_refine::{Found, Partitions, resolve_partition_id};
 use std::alloc::{AllocError, Allocator};
 
-/// HvDepositMemory: moves a loose page of the caller to the target's pool.
-///
-/// It has no output and uses no pages. Any page number is allowed. Out of memory, the page stays where it is.
-pub fn deposit_memory<A: Allocator>(
-    tree: &mut Partitions<A>,
-    by: Caller,
-    partition: u64,
-    page: u64,
-) -> Result<Effect, CallError>
-    requires rows { TreeInvariant tree.old }
-    ensures { (f : Flat) → Refines tree.old f → IsCalled f by (call.DepositMemory partition page) tree.old
-        (result_map_both (λ effect. ([], effect)) (λ why. why) result) tree.new }
-{
-    let found = admit(tree, by, &Call::DepositMemory { partition, page })?;
-    ask_deposit(found, page)?;
-    Ok(do_deposit(tree, by.part, partition, page)?)
-}
-
-// Checks P12 and P21. The error is the first of them that fails.
-fn ask_deposit<A: Allocator>(found: Found<'_, A>, page: u64) -> Result<(), Rule>
+/// Checks P12 and P21.
+pub fn ask_deposit<A: Allocator>(found: Found<'_, A>, page: u64) -> Result<(), Rule>
     ensures { (tree : Rows PartitionState) (f : Flat) (by partition : ℕ)
         → AreFound tree by (call.DepositMemory partition page) found.entry.need found.entry.caller.now
         found.entry.target.now found.entry.children → TreeInvariant tree → Refines tree f
@@ -65,8 +46,10 @@ fn is_loose<A: Allocator>(partition: &Partition<A>, page: u64) -> bool
     }
 }
 
-// Moves the page.
-fn do_deposit<A: Allocator>(
+/// HvDepositMemory: moves a loose page of the caller to the target's pool.
+///
+/// It has no output and uses no pages. Any page number is allowed. Out of memory, the page stays where it is.
+pub fn do_deposit<A: Allocator>(
     tree: &mut Partitions<A>,
     caller: u64,
     partition: u64,

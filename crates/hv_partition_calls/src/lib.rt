@@ -1,12 +1,11 @@
 //! Partitions: their life cycle, properties and pools (TLFS 4.0, "Partition Management", "Partition
 //! Properties" and "Resource Management").
 //!
-//! Each call has one public function, in a file of its own, which works in three steps. `admit` checks the
-//! rules of every call and looks the caller and the target up. `ask_x` checks the call's own rules on them,
-//! in the policy's order, and hands on what the change needs. `do_x` reserves room, changes the tree and
-//! returns the effect. The contract states the call's outcome in the policy's terms (`IsCalled`), with the
-//! output and the effect. For a rep call, the function serves one element. Setting the mask of an Active
-//! partition changes all rows of its subtree at once.
+//! Each call has a file of its own, with what is asked and what is done. `ask_x` checks the call's own rules
+//! on the caller and the target that `hv_refine::admit` found, in the policy's order, and returns what the
+//! change needs. `do_x` requires that all rules hold. It reserves room, changes the tree and returns the
+//! effect (`IsDone`). A rep call is served element by element. Setting the mask of an Active partition
+//! changes all rows of its subtree at once.
 #![tactic(auto)]
 
 mod balance;
@@ -22,14 +21,14 @@ mod pages;
 mod set_property;
 mod withdraw;
 
-pub use balance::get_memory_balance;
-pub use create::create_partition;
-pub use delete::delete_partition;
-pub use deposit::deposit_memory;
-pub use finalize::finalize_partition;
-pub use get_property::get_partition_property;
-pub use initialize::initialize_partition;
-pub use next_child::get_next_child_partition;
-pub use own_id::get_partition_id;
-pub use set_property::set_partition_property;
-pub use withdraw::withdraw_memory;
+pub use balance::do_balance;
+pub use create::{ask_create_partition, do_create_partition};
+pub use delete::{ask_delete_partition, do_delete_partition};
+pub use deposit::{ask_deposit, do_deposit};
+pub use finalize::{ask_finalize, do_finalize};
+pub use get_property::{ask_get_property, do_get_property};
+pub use initialize::{ask_initialize, do_initialize};
+pub use next_child::{ask_next_child, do_next_child};
+pub use own_id::do_own_id;
+pub use set_property::{Setting, ask_set_property, do_set_property};
+pub use withdraw::{ask_withdraw, do_withdraw};

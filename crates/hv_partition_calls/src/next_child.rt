@@ -1,59 +1,51 @@
 // HvGetNextChildPartition.
 ghost use Rattle.std.specs.Prelude.{◌≡◌, ℕ, ◌==◌, ◌||◌, []};
-ghost use Rattle.std.specs.Result.{result_err, result_map_both};
+ghost use Rattle.std.specs.Result.{result_err};
 ghost use Rattle.hv_calls.specs.declared.call.Call.TheVariants as call;
 ghost use Rattle.hv_policy.specs.Answer.{next_child as next_child_of};
 ghost use Rattle.hv_policy.specs.Flat.{Flat};
 ghost use Rattle.hv_policy.specs.Met.{is_child as is_child_of};
-ghost use Rattle.hv_policy.specs.Needs.{target_of};
-ghost use Rattle.hv_refine.specs.Done.{HasServed, IsCalled};
+ghost use Rattle.hv_refine.specs.Done.{HasServed};
 ghost use Rattle.hv_refine.specs.Served.{unmet_further};
 ghost use Rattle.hv_refine.specs.Tie.{Refines};
 
-use hv_calls::Call;
 use hv_effect::Effect;
-use hv_policy::{Caller, Output, Rule};
-use hv_refine::{CallError, Partitions, admit, resolve_partition_id};
+use hv_policy::{Output, Rule};
+use hv_refine::{Partitions, resolve_partition_id};
 use hv_tree::IdTree;
 use std::alloc::Allocator;
 
-/// HvGetNextChildPartition: outputs the least id above `previous` among the target's children, or 0 if none.
-pub fn get_next_child_partition<A: Allocator>(
+/// Checks P15: the previous child is 0, or a child of the target.
+pub fn ask_next_child<A: Allocator>(
     tree: &Partitions<A>,
-    by: Caller,
+    by: u64,
     partition: u64,
     previous: u64,
-    output: &mut Output,
-) -> Result<Effect, CallError>
-    requires empty { output.old ≡ [] }
-    ensures { (f : Flat) → Refines tree.now f → IsCalled f by (call.GetNextChildPartition partition previous)
-        tree.now (result_map_both (λ effect. (output.new, effect)) (λ why. why) result) tree.now }
-{
-    let asked = Call::GetNextChildPartition {
-        partition,
-        previous,
-    };
-    admit(tree, by, &asked)?;
-    let target = resolve_partition_id(by.part, partition);
-    ask_next_child(tree, target, previous)?;
-    output.push_number(next_child(tree, target, previous));
-    Ok(Effect::Nothing)
-}
-
-// Checks P15: the previous child is 0, or a child of the target.
-fn ask_next_child<A: Allocator>(
-    tree: &Partitions<A>,
-    target: u64,
-    previous: u64,
 ) -> Result<(), Rule>
-    ensures { (f : Flat) (by partition : ℕ) → Refines tree.now f
-        → target ≡ target_of (call.GetNextChildPartition partition previous) by
+    ensures { (f : Flat) → Refines tree.now f
         → result_err result ≡ unmet_further f by (call.GetNextChildPartition partition previous) }
 {
-    if previous != 0 && !is_child(tree, target, previous) {
+    if previous != 0 && !is_child(tree, resolve_partition_id(by, partition), previous) {
         return Err(Rule::PeerExists);
     }
     Ok(())
+}
+
+/// HvGetNextChildPartition: outputs the least id above `previous` among the target's children, or 0 if none.
+pub fn do_next_child<A: Allocator>(
+    tree: &Partitions<A>,
+    caller: u64,
+    partition: u64,
+    previous: u64,
+    output: &mut Output,
+) -> Effect
+    requires { output.old ≡ [] }
+    ensures { (f : Flat) → Refines tree.now f
+        → HasServed f caller (call.GetNextChildPartition partition previous) output.new result tree.now }
+{
+    let target = resolve_partition_id(caller, partition);
+    output.push_number(next_child(tree, target, previous));
+    Effect::Nothing
 }
 
 fn is_child<A: Allocator>(tree: &Partitions<A>, parent: u64, id: u64) -> bool

@@ -1,64 +1,44 @@
 // HvSetPartitionProperty.
 ghost use Rattle.std.specs.Prelude.{◌≡◌, ℕ, Some, [], IfOk};
-ghost use Rattle.std.specs.Result.{result_err, result_map_both};
+ghost use Rattle.std.specs.Result.{result_err};
 ghost use Rattle.hv_calls.specs.declared.call.Call.TheVariants as call;
 ghost use Rattle.hv_partition.specs.Partition.{PartitionState};
 ghost use Rattle.hv_policy.specs.Effect.{narrowed as narrowed_parts, narrows as narrows_of, property_set};
 ghost use Rattle.hv_policy.specs.Flat.{Flat};
 ghost use Rattle.hv_policy.specs.Met.{may_give as may_give_of};
 ghost use Rattle.hv_refine.specs.Asked.{AreFound};
-ghost use Rattle.hv_refine.specs.Done.{HasServed, IsCalled};
+ghost use Rattle.hv_refine.specs.Done.{HasServed};
 ghost use Rattle.hv_refine.specs.Served.{TreeInvariant, unmet_further};
 ghost use Rattle.hv_refine.specs.Tie.{Refines};
 ghost use Rattle.hv_partition_calls.specs.Given.{given};
 ghost use Rattle.hv_partition_calls.specs.MaySet.{MaySet};
 ghost use Rattle.hv_tree.specs.Rows.{Rows, change as changed, content};
 
-use hv_calls::Call;
 use hv_defs::Life;
 use hv_effect::Effect;
 use hv_partition::Partition;
-use hv_policy::{Caller, Property, Rule};
+use hv_policy::{Property, Rule};
 use hv_privs::Privileges;
-use hv_refine::{CallError, Found, Partitions, admit, resolve_partition_id};
+use hv_refine::{Found, Partitions, resolve_partition_id};
 use hv_tree::Edit;
 use std::alloc::Allocator;
 
-/// HvSetPartitionProperty: sets a property of the target to a new value.
+/// The property to set, and whether its new value narrows the target's subtree.
+#[derive(Clone, Copy)]
+pub struct Setting {
+    pub property: Property,
+    pub narrows: bool,
+}
+
+/// Checks P11, P12, P18 and P20, and returns what is to be set.
 ///
-/// It has no output. A new mask for an Active target narrows it and all partitions below it: each keeps only
-/// the bits that the value also has. P11 fails if the profile has no property with this code, P18 if the
-/// value is a mask that is not within the caller's, and P20 if the value is not in the property's range.
-pub fn set_partition_property<A: Allocator>(
-    tree: &mut Partitions<A>,
-    by: Caller,
-    partition: u64,
+/// P11 fails if the profile has no property with this code, P18 if the value is a mask that is not within
+/// the caller's, and P20 if the value is not in the property's range.
+pub fn ask_set_property<A: Allocator>(
+    found: Found<'_, A>,
     code: u32,
     value: u64,
-) -> Result<Effect, CallError>
-    requires rows { TreeInvariant tree.old }
-    ensures { (f : Flat) → Refines tree.old f → IsCalled f by (call.SetPartitionProperty partition code value)
-        tree.old (result_map_both (λ effect. ([], effect)) (λ why. why) result) tree.new }
-{
-    let call = Call::SetPartitionProperty {
-        partition,
-        code,
-        value,
-    };
-    let found = admit(tree, by, &call)?;
-    let setting = ask_set(found, code, value)?;
-    Ok(do_set(tree, by.part, partition, setting, value))
-}
-
-// The property to set, and whether its new value narrows the target's subtree.
-#[derive(Clone, Copy)]
-struct Setting {
-    property: Property,
-    narrows: bool,
-}
-
-// Checks P11, P12, P18 and P20, and returns what is to be set.
-fn ask_set<A: Allocator>(found: Found<'_, A>, code: u32, value: u64) -> Result<Setting, Rule>
+) -> Result<Setting, Rule>
     ensures setting { IfOk result (λ setting. (tree : Rows PartitionState) (f : Flat) (by partition : ℕ)
         → AreFound tree by (call.SetPartitionProperty partition code value) found.entry.need
         found.entry.caller.now found.entry.target.now found.entry.children → Refines tree f
@@ -114,8 +94,11 @@ fn narrows<A: Allocator>(partition: &Partition<A>, property: Property) -> bool
     }
 }
 
-// Sets the property.
-fn do_set<A: Allocator>(
+/// HvSetPartitionProperty: sets a property of the target to a new value.
+///
+/// It has no output. A new mask for an Active target narrows it and all partitions below it: each keeps only
+/// the bits that the value also has.
+pub fn do_set_property<A: Allocator>(
     tree: &mut Partitions<A>,
     caller: u64,
     partition: u64,

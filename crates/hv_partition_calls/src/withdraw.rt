@@ -8,42 +8,23 @@ ghost use Rattle.hv_policy.specs.Count.{lowest_pooled as lowest_pooled_of};
 ghost use Rattle.hv_policy.specs.Flat.{Flat};
 ghost use Rattle.hv_policy.specs.Needs.{target_of};
 ghost use Rattle.hv_refine.specs.Asked.{AreFound};
-ghost use Rattle.hv_refine.specs.Done.{IsCalled, IsDone};
-ghost use Rattle.hv_refine.specs.Served.{TreeInvariant, unmet_further};
+ghost use Rattle.hv_refine.specs.Done.{IsDone};
+ghost use Rattle.hv_refine.specs.Served.{unmet_further};
 ghost use Rattle.hv_refine.specs.Tie.{Refines};
 ghost use Rattle.hv_partition_calls.specs.PoolChange.{MayWithdraw};
 ghost use Rattle.hv_tree.specs.Rows.{Rows, content};
 
 use crate::pages::move_page;
-use hv_calls::Call;
 use hv_effect::Effect;
 use hv_partition::{PageKind, Partition};
-use hv_policy::{Caller, Output, Rule};
-use hv_refine::{CallError, Found, Partitions, admit, balance_of, resolve_partition_id};
+use hv_policy::{Output, Rule};
+use hv_refine::{Found, Partitions, balance_of, resolve_partition_id};
 use std::alloc::{AllocError, Allocator};
 
-/// HvWithdrawMemory: moves the lowest page of the target's pool to the caller's loose pages.
+/// Checks P24, and returns the page to move: the lowest pooled page of the target.
 ///
-/// The output is the page's number, 8 bytes. P24 fails if no pooled page is available. Out of memory, the
-/// page stays where it is.
-pub fn withdraw_memory<A: Allocator>(
-    tree: &mut Partitions<A>,
-    by: Caller,
-    partition: u64,
-    output: &mut Output,
-) -> Result<Effect, CallError>
-    requires rows { TreeInvariant tree.old }
-    requires empty { output.old ≡ [] }
-    ensures { (f : Flat) → Refines tree.old f → IsCalled f by (call.WithdrawMemory partition) tree.old
-        (result_map_both (λ effect. (output.new, effect)) (λ why. why) result) tree.new }
-{
-    let found = admit(tree, by, &Call::WithdrawMemory { partition })?;
-    let page = ask_withdraw(found)?;
-    Ok(do_withdraw(tree, by.part, partition, page, output)?)
-}
-
-// Checks P24, and returns the page to move: the lowest pooled page of the target.
-fn ask_withdraw<A: Allocator>(found: Found<'_, A>) -> Result<u32, Rule>
+/// P24 fails if no pooled page is available.
+pub fn ask_withdraw<A: Allocator>(found: Found<'_, A>) -> Result<u32, Rule>
     ensures page { IfOk result (λ page. (tree : Rows PartitionState) (f : Flat) (by partition : ℕ)
         → AreFound tree by (call.WithdrawMemory partition) found.entry.need found.entry.caller.now
         found.entry.target.now found.entry.children → Refines tree f
@@ -80,8 +61,10 @@ fn lowest_pooled<A: Allocator>(partition: &Partition<A>) -> Option<u32>
     }
 }
 
-// Moves the target's lowest pooled page, which is `page`.
-fn do_withdraw<A: Allocator>(
+/// HvWithdrawMemory: moves the lowest page of the target's pool, `page`, to the caller's loose pages.
+///
+/// The output is the page's number, 8 bytes. Out of memory, the page stays where it is.
+pub fn do_withdraw<A: Allocator>(
     tree: &mut Partitions<A>,
     caller: u64,
     partition: u64,

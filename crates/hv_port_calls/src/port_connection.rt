@@ -1,72 +1,34 @@
 // HvConnectPort.
 ghost use Rattle.std.specs.Prelude.{◌≡◌, IfOk, []};
 ghost use Rattle.std.specs.Result.{result_err, result_map_both};
-ghost use Rattle.hv_calls.specs.declared.call.Call.TheVariants as call;
 ghost use Rattle.hv_policy.specs.Flat.{Flat};
 ghost use Rattle.hv_refine.specs.Asked.{AreFound};
-ghost use Rattle.hv_refine.specs.Done.{IsCalled, IsDone};
-ghost use Rattle.hv_refine.specs.Served.{TreeInvariant, unmet_further};
+ghost use Rattle.hv_refine.specs.Done.{IsDone};
+ghost use Rattle.hv_refine.specs.Served.{unmet_further};
 ghost use Rattle.hv_refine.specs.Tie.{Refines};
 ghost use Rattle.hv_port_calls.specs.Calls.{MayConnect, connect_with, port_birth};
 
 use crate::rules::has_conn;
-use hv_calls::Call;
 use hv_defs::PortKind;
 use hv_effect::Effect;
-use hv_policy::{Caller, Rule};
+use hv_policy::Rule;
 use hv_ports::Conn;
-use hv_refine::{CallError, Found, Partitions, admit, balance_of, resolve_partition_id};
+use hv_refine::{Found, Partitions, balance_of, resolve_partition_id};
 use std::alloc::{AllocError, Allocator};
 
-// The parameters of a new connection, as HvConnectPort has them.
+/// The parameters of a new connection, as HvConnectPort has them.
 #[derive(Clone, Copy)]
 pub struct NewConnection {
-    // The connection's id.
+    /// The connection's id.
     pub connection: u32,
-    // The port: its partition, its id there and its type.
+    /// The port: its partition, its id there and its type.
     pub port_partition: u64,
     pub port: u32,
     pub kind: PortKind,
 }
 
-/// HvConnectPort: creates a connection of the target to a port.
-///
-/// The connection keeps the port's partition, id, type and birth. It uses 1 page of the target's pool.
-pub fn connect_port<A: Allocator>(
-    tree: &mut Partitions<A>,
-    by: Caller,
-    partition: u64,
-    connection: u32,
-    port_partition: u64,
-    port: u32,
-    kind: PortKind,
-) -> Result<Effect, CallError>
-    requires { TreeInvariant tree.old }
-    ensures { (f : Flat) → Refines tree.old f
-        → IsCalled f by (call.ConnectPort partition connection port_partition port kind) tree.old
-        (result_map_both (λ effect. ([], effect)) (λ why. why) result) tree.new }
-{
-    let call = Call::ConnectPort {
-        partition,
-        connection,
-        port_partition,
-        port,
-        kind,
-    };
-    let found = admit(tree, by, &call)?;
-    let new = NewConnection {
-        connection,
-        port_partition,
-        port,
-        kind,
-    };
-    let born = ask_connect(tree, by.part, found, partition, new)?;
-    Ok(do_connect(tree, by.part, partition, new, born)?)
-}
-
-// Checks P12, P15, P16, P17, P18, P21 and P24, and returns the port's birth. The error is the first of these
-// rules that fails.
-fn ask_connect<A: Allocator>(
+/// Checks P12, P15, P16, P17, P18, P21 and P24, and returns the port's birth.
+pub fn ask_connect<A: Allocator>(
     tree: &Partitions<A>,
     by: u64,
     found: Found<'_, A>,
@@ -110,8 +72,10 @@ fn ask_connect<A: Allocator>(
     Ok(port.born)
 }
 
-// Adds the connection to the target. The port has this birth.
-fn do_connect<A: Allocator>(
+/// HvConnectPort: creates a connection of the target to a port, which has this birth.
+///
+/// The connection keeps the port's partition, id, type and birth. It uses 1 page of the target's pool.
+pub fn do_connect<A: Allocator>(
     tree: &mut Partitions<A>,
     caller: u64,
     partition: u64,

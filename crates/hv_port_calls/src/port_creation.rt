@@ -1,25 +1,21 @@
 // HvCreatePort.
 ghost use Rattle.std.specs.Prelude.{◌≡◌, ◌<◌, ℕ, []};
 ghost use Rattle.std.specs.Result.{result_err, result_map_both};
-ghost use Rattle.hv_calls.specs.declared.call.Call.TheVariants as call;
 ghost use Rattle.hv_defs.specs.declared.sizes.TheConstants.{MAX_SERVED};
 ghost use Rattle.hv_policy.specs.Effect.{flags_of as flags_kept};
 ghost use Rattle.hv_policy.specs.Flat.{Flat};
 ghost use Rattle.hv_refine.specs.Asked.{AreFound, IsGranted};
-ghost use Rattle.hv_refine.specs.Done.{IsCalled, IsDone};
-ghost use Rattle.hv_refine.specs.Served.{TreeInvariant, unmet_further};
+ghost use Rattle.hv_refine.specs.Done.{IsDone};
+ghost use Rattle.hv_refine.specs.Served.{unmet_further};
 ghost use Rattle.hv_refine.specs.Tie.{Refines};
 ghost use Rattle.hv_port_calls.specs.Calls.{create_with};
 
 use crate::rules::has_port;
-use hv_calls::Call;
 use hv_defs::{Aim, PortKind};
 use hv_effect::Effect;
-use hv_policy::{Caller, Rule};
+use hv_policy::Rule;
 use hv_ports::Port;
-use hv_refine::{
-    CallError, Found, Partitions, admit, balance_of, has_target, resolve_partition_id,
-};
+use hv_refine::{Found, Partitions, balance_of, has_target, resolve_partition_id};
 use std::alloc::{AllocError, Allocator};
 
 /// The parameters of a new port, as HvCreatePort has them.
@@ -39,40 +35,8 @@ pub struct NewPort {
     pub count: u16,
 }
 
-/// HvCreatePort: creates a port of the target.
-///
-/// The port's birth is the count of served events after this one; `served` is the count before it. The
-/// port uses 1 page of the target's pool.
-pub fn create_port<A: Allocator>(
-    tree: &mut Partitions<A>,
-    by: Caller,
-    served: u64,
-    partition: u64,
-    new: NewPort,
-) -> Result<Effect, CallError>
-    requires rows { TreeInvariant tree.old }
-    requires count { served < MAX_SERVED }
-    ensures { (f : Flat) → Refines tree.old f → f.served ≡ served
-        → IsCalled f by (call.CreatePort partition new.port new.peer new.kind new.sint new.vp new.base
-        new.count) tree.old (result_map_both (λ effect. ([], effect)) (λ why. why) result) tree.new }
-{
-    let call = Call::CreatePort {
-        partition,
-        port: new.port,
-        peer: new.peer,
-        kind: new.kind,
-        sint: new.sint,
-        vp: new.vp,
-        base: new.base,
-        count: new.count,
-    };
-    let found = admit(tree, by, &call)?;
-    ask_create(tree, by.part, found, new)?;
-    Ok(do_create(tree, by.part, served, partition, new)?)
-}
-
-// Checks P12, P15, P17, P19 and P24. The error is the first of them that fails.
-fn ask_create<A: Allocator>(
+/// Checks P12, P15, P17, P19 and P24.
+pub fn ask_create_port<A: Allocator>(
     tree: &Partitions<A>,
     by: u64,
     found: Found<'_, A>,
@@ -107,8 +71,11 @@ fn ask_create<A: Allocator>(
     Ok(())
 }
 
-// Adds the port to the target.
-fn do_create<A: Allocator>(
+/// HvCreatePort: creates a port of the target.
+///
+/// The port's birth is the count of served events after this one; `served` is the count before it. The
+/// port uses 1 page of the target's pool.
+pub fn do_create_port<A: Allocator>(
     tree: &mut Partitions<A>,
     caller: u64,
     served: u64,

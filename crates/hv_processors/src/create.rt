@@ -5,40 +5,20 @@ ghost use Rattle.hv_calls.specs.declared.call.Call.TheVariants as call;
 ghost use Rattle.hv_partition.specs.Partition.{PartitionState};
 ghost use Rattle.hv_policy.specs.Flat.{Flat};
 ghost use Rattle.hv_refine.specs.Asked.{AreFound, IsGranted};
-ghost use Rattle.hv_refine.specs.Done.{IsCalled, IsDone};
-ghost use Rattle.hv_refine.specs.Served.{TreeInvariant, unmet_further};
+ghost use Rattle.hv_refine.specs.Done.{IsDone};
+ghost use Rattle.hv_refine.specs.Served.{unmet_further};
 ghost use Rattle.hv_refine.specs.Tie.{Refines};
 ghost use Rattle.hv_tree.specs.Rows.{Rows};
 
-use hv_calls::Call;
 use hv_defs::MAX_VPS;
 use hv_effect::Effect;
-use hv_policy::{Caller, Rule};
-use hv_refine::{CallError, Found, Partitions, admit, balance_of, has_vp, resolve_partition_id};
+use hv_policy::Rule;
+use hv_refine::{Found, Partitions, balance_of, has_vp, resolve_partition_id};
 use hv_vp::Vp;
 use std::alloc::{AllocError, Allocator};
 
-/// HvCreateVp: creates a processor with this index in the target.
-///
-/// Its registers have their initial values. It uses 4 pages of the target's pool.
-pub fn create_vp<A: Allocator + Clone>(
-    tree: &mut Partitions<A>,
-    alloc: &A,
-    by: Caller,
-    partition: u64,
-    vp: u32,
-) -> Result<Effect, CallError>
-    requires rows { TreeInvariant tree.old }
-    ensures { (f : Flat) → Refines tree.old f → IsCalled f by (call.CreateVp partition vp) tree.old
-        (result_map_both (λ effect. ([], effect)) (λ why. why) result) tree.new }
-{
-    let found = admit(tree, by, &Call::CreateVp { partition, vp })?;
-    ask_create(found, vp)?;
-    Ok(do_create(tree, alloc, by.part, partition, vp)?)
-}
-
-// P12, P19 and P24.
-fn ask_create<A: Allocator>(found: Found<'_, A>, vp: u32) -> Result<(), Rule>
+/// Checks P12, P19 and P24.
+pub fn ask_create_vp<A: Allocator>(found: Found<'_, A>, vp: u32) -> Result<(), Rule>
     ensures { (tree : Rows PartitionState) (f : Flat) (by partition : ℕ)
         → AreFound tree by (call.CreateVp partition vp) found.entry.need found.entry.caller.now
         found.entry.target.now found.entry.children → Refines tree f
@@ -62,9 +42,12 @@ fn ask_create<A: Allocator>(found: Found<'_, A>, vp: u32) -> Result<(), Rule>
     Ok(())
 }
 
-// Creates the processor. It takes memory for the processor, then for its place among the target's.
+/// HvCreateVp: creates a processor with this index in the target.
+///
+/// Its registers have their initial values. It uses 4 pages of the target's pool. It takes memory for the
+/// processor, then for its place among the target's.
 #[tactic(auto, using(hv_tree::proofs::Laws::unchanged))]
-fn do_create<A: Allocator + Clone>(
+pub fn do_create_vp<A: Allocator + Clone>(
     tree: &mut Partitions<A>,
     alloc: &A,
     caller: u64,

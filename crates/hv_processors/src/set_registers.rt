@@ -1,54 +1,30 @@
 // HvSetVpRegisters.
 ghost use Rattle.std.specs.Prelude.{◌≡◌, ℕ, []};
-ghost use Rattle.std.specs.Result.{result_err, result_map_both};
+ghost use Rattle.std.specs.Result.{result_err};
 ghost use Rattle.hv_calls.specs.declared.call.Call.TheVariants as call;
 ghost use Rattle.hv_partition.specs.Partition.{PartitionState};
 ghost use Rattle.hv_policy.specs.Flat.{Flat};
 ghost use Rattle.hv_refine.specs.Asked.{AreFound, IsGranted};
-ghost use Rattle.hv_refine.specs.Done.{HasServed, IsCalled};
-ghost use Rattle.hv_refine.specs.Served.{TreeInvariant, unmet_further};
+ghost use Rattle.hv_refine.specs.Done.{HasServed};
+ghost use Rattle.hv_refine.specs.Served.{unmet_further};
 ghost use Rattle.hv_refine.specs.Tie.{Refines};
 ghost use Rattle.hv_tree.specs.Rows.{Rows};
 
 use crate::register_rules::may_access;
 use crate::writes::write_register;
-use hv_calls::Call;
 use hv_effect::Effect;
-use hv_policy::{Caller, Rule};
-use hv_refine::{CallError, Found, Partitions, admit, has_vp, resolve_partition_id};
+use hv_policy::Rule;
+use hv_refine::{Found, Partitions, has_vp, resolve_partition_id};
 use hv_vp::{kept, privilege_of};
 use std::alloc::Allocator;
 
-/// HvSetVpRegisters, one element: writes a register of the target's processor.
-///
-/// The register determines which value it keeps. A write of EOM ends a message: if the processor takes
-/// messages, each SINT that shows none then shows its oldest waiting message and raises its vector.
-pub fn set_vp_registers<A: Allocator>(
-    tree: &mut Partitions<A>,
-    by: Caller,
-    partition: u64,
+/// Checks P12, P18, P19 and P21.
+pub fn ask_set_registers<A: Allocator>(
+    found: Found<'_, A>,
     vp: u32,
     name: u32,
     value: u64,
-) -> Result<Effect, CallError>
-    requires rows { TreeInvariant tree.old }
-    ensures { (f : Flat) → Refines tree.old f
-        → IsCalled f by (call.SetVpRegisters partition vp name value) tree.old
-        (result_map_both (λ effect. ([], effect)) (λ why. why) result) tree.new }
-{
-    let call = Call::SetVpRegisters {
-        partition,
-        vp,
-        name,
-        value,
-    };
-    let found = admit(tree, by, &call)?;
-    ask_set(found, vp, name, value)?;
-    Ok(do_set(tree, by.part, partition, vp, name, value))
-}
-
-// P12, P18, P19 and P21.
-fn ask_set<A: Allocator>(found: Found<'_, A>, vp: u32, name: u32, value: u64) -> Result<(), Rule>
+) -> Result<(), Rule>
     ensures { (tree : Rows PartitionState) (f : Flat) (by partition : ℕ)
         → AreFound tree by (call.SetVpRegisters partition vp name value) found.entry.need
         found.entry.caller.now found.entry.target.now found.entry.children → Refines tree f
@@ -75,9 +51,12 @@ fn ask_set<A: Allocator>(found: Found<'_, A>, vp: u32, name: u32, value: u64) ->
     Ok(())
 }
 
-// Writes the register.
+/// HvSetVpRegisters, one element: writes a register of the target's processor.
+///
+/// The register determines which value it keeps. A write of EOM ends a message: if the processor takes
+/// messages, each SINT that shows none then shows its oldest waiting message and raises its vector.
 #[tactic(auto, using(hv_tree::proofs::Laws::unchanged))]
-fn do_set<A: Allocator>(
+pub fn do_set_registers<A: Allocator>(
     tree: &mut Partitions<A>,
     caller: u64,
     partition: u64,

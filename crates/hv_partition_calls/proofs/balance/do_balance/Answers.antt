@@ -6,12 +6,12 @@ use Rattle.hv_refine.proofs.TargetFound.{found_available, found_use}
 use Rattle.hv_partition_calls.proofs.balance.do_balance.Goals as goal
 
 pub returns : goal.returns
-returns g c tree f by partition need caller found flat =
-    let may = c.balance_of-balance.ensures.available ∙ found_available tree f flat by (GetMemoryBalance partition) need caller c.args.target.now c.args.children found in
-    let uses = c.balance_of-balance.ensures.in_use ∙ found_use tree f flat by (GetMemoryBalance partition) need caller c.args.target.now c.args.children found in
+returns c tree f by partition children need caller target found available in_use flat =
+    let may = available ∙ found_available tree f flat by (GetMemoryBalance partition) need caller target children found in
+    let uses = in_use ∙ found_use tree f flat by (GetMemoryBalance partition) need caller target children found in
     record {
-      output = c.push_number-2.ensures ∙ ap (λ bytes. bytes ++ to_le_bytes w64 c.balance_of-balance.result.in_use)
-          (c.push_number.ensures ∙ ap (λ bytes. bytes ++ to_le_bytes w64 c.balance_of-balance.result.available) c.requires) ∙ rw (may, uses) refl;
+      output = c.push_number-2.ensures ∙ ap (λ bytes. bytes ++ to_le_bytes w64 c.args.balance.in_use)
+          (c.push_number.ensures ∙ ap (λ bytes. bytes ++ to_le_bytes w64 c.args.balance.available) c.requires) ∙ rw (may, uses) refl;
       rows = flat;
       told = untold f f refl refl refl;
     }

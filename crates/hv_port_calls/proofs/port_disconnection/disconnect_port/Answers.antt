@@ -1,8 +1,0 @@
-use Rattle.std.proofs.Common.{rules}
-use Rattle.hv_port_calls.proofs.port_disconnection.disconnect_port.Goals as goal
-
-pub do_disconnect-requires : goal.do_disconnect-requires
-do_disconnect-requires g c =
-    let t = c.requires in
-    let asked = c.ask_disconnect.ensures c.args.tree.now t.flat c.args.by.part c.args.partition c.in_ok-found.ensures.found t.tied in
-    c.in_ok-found.ensures.grants t (search rules)
