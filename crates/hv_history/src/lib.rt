@@ -8,6 +8,7 @@
 
 mod beside;
 mod entry;
+pub mod global;
 mod history;
 mod kept;
 mod row;

@@ -18,7 +18,7 @@ ghost use Rattle.hv_shared.specs.Shared.{AreOpened};
 
 use crate::receipts::Receipts;
 use hv_abi::Frame;
-use hv_history::{HostRefused, Kept, RunAnswered, RunDone};
+use hv_history::{HostRefused, Kept, RunAnswered, RunDone, global};
 use hv_policy::{Action, Caller, Event, Output, Reply};
 use std::alloc::{AllocError, Global};
 use std::marker::Model;
@@ -227,7 +227,7 @@ impl<L: Ledger> Held<L> {
         ensures next { IfOk result (λ r. GoesOn event.what r) }
     {
         self.output.clear();
-        match self.kept.answer(event, &mut self.output) {
+        match global::answer(&mut self.kept, event, &mut self.output) {
             Ok((answer, _)) => {
                 self.count.add(&mut pass.share, 1);
                 // proof: a history's length fits 32 bits.
@@ -267,9 +267,13 @@ impl<L: Ledger> Held<L> {
             ↔ (length self.new.kept.history ≡ self.new.kept.limit)) }
     {
         let from = self.kept.history().len();
-        let RunAnswered { events, last } = self
-            .kept
-            .answer_run(pass.caller, frame, most, &mut self.output);
+        let RunAnswered { events, last } = global::answer_run(
+            &mut self.kept,
+            pass.caller,
+            frame,
+            most,
+            &mut self.output,
+        );
         self.count.add(&mut pass.share, u64::from(events));
         // proof: a history's length fits 32 bits.
         let _limit = self.kept.limit();

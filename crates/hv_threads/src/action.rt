@@ -3,7 +3,7 @@ ghost use Rattle.std.specs.Prelude.{◌<◌, OnOk, OnErr};
 ghost use Rattle.hv_threads.specs.Acted.{HasTried};
 ghost use Rattle.hv_threads.specs.Perform.{HasBegun, HasPerformed};
 
-use hv_history::{HostRefused, Kept};
+use hv_history::{HostRefused, Kept, global};
 use hv_policy::{Action, Caller, Event};
 use hv_shared::{Gate, Pass, Shared};
 use std::alloc::Global;
@@ -25,7 +25,7 @@ pub fn act(
     ensures { HasTried by action most kept.old kept.new result }
 {
     match action {
-        Action::Hypercall(frame) => match kept.apply_run(by, frame, most).last {
+        Action::Hypercall(frame) => match global::apply_run(kept, by, frame, most).last {
             Ok(_) => Ok(()),
             Err(why) => Err(why),
         },
@@ -35,7 +35,7 @@ pub fn act(
         | Action::ClearSlot(_)
         | Action::ReadFlags(_)
         | Action::ClearFlag(_, _)
-        | Action::TakeInterrupt => match kept.apply(Event { by, what: action }) {
+        | Action::TakeInterrupt => match global::apply(kept, Event { by, what: action }) {
             Ok(_) => Ok(()),
             Err(why) => Err(why),
         },

@@ -22,7 +22,7 @@ pub push_all-requires : goal.push_all-requires
 push_all-requires g c =
     let run = c.answer_run-events in
     let are = rw (sym c.pass.view_is) at c.requires.copies in
-    let is = gained _ _ _ _ c.self.inside.kept run.new.self c.args.copies.items run.ensures.run are run.result.last (λ answer. reply_of answer run.new.output) run.ensures.ran run.ensures.stopped in
+    let is = gained _ _ _ _ c.self.inside.kept run.new.kept c.args.copies.items run.ensures.run are run.result.last (λ answer. reply_of answer run.new.output) run.ensures.ran run.ensures.stopped in
     let history = c.history-2.ensures.list ∙ is.history in
     let all = ap length history in
     let from : c.len-from.result ≡ length c.self.inside.kept.history = c.len-from.ensures ∙ ap length c.history.ensures.list in
@@ -45,7 +45,7 @@ pub invariant_of-self : goal.invariant_of-self
 invariant_of-self g c =
     let run = c.answer_run-events in
     let are = rw (sym c.pass.view_is) at c.requires.copies in
-    let is = gained _ _ _ _ c.self.inside.kept run.new.self c.args.copies.items run.ensures.run are run.result.last (λ answer. reply_of answer run.new.output) run.ensures.ran run.ensures.stopped in
+    let is = gained _ _ _ _ c.self.inside.kept run.new.kept c.args.copies.items run.ensures.run are run.result.last (λ answer. reply_of answer run.new.output) run.ensures.ran run.ensures.stopped in
     let all = ap length is.history in
     let many = is.many in
     let counted = c.self.invariant in
@@ -56,7 +56,7 @@ pub invariant_of-pass : goal.invariant_of-pass
 invariant_of-pass g c =
     let run = c.answer_run-events in
     let are = rw (sym c.pass.view_is) at c.requires.copies in
-    let is = gained _ _ _ _ c.self.inside.kept run.new.self c.args.copies.items run.ensures.run are run.result.last (λ answer. reply_of answer run.new.output) run.ensures.ran run.ensures.stopped in
+    let is = gained _ _ _ _ c.self.inside.kept run.new.kept c.args.copies.items run.ensures.run are run.result.last (λ answer. reply_of answer run.new.output) run.ensures.ran run.ensures.stopped in
     let n = c.len-from.result + 1 in
     let all = entries c.history-2.result.now in
     let tail = tail_is all c.self.inside.kept.history is.more c.len-from.result (c.history-2.ensures.list ∙ is.history) (c.len-from.ensures ∙ ap length c.history.ensures.list) in
@@ -69,7 +69,7 @@ pub returns-clause-held : goal.returns-clause-held
 returns-clause-held g c =
     let run = c.answer_run-events in
     let are = rw (sym c.pass.view_is) at c.requires.copies in
-    let is = gained _ _ _ _ c.self.inside.kept run.new.self c.args.copies.items run.ensures.run are run.result.last (λ answer. reply_of answer run.new.output) run.ensures.ran run.ensures.stopped in
+    let is = gained _ _ _ _ c.self.inside.kept run.new.kept c.args.copies.items run.ensures.run are run.result.last (λ answer. reply_of answer run.new.output) run.ensures.ran run.ensures.stopped in
     let all = entries c.history-2.result.now in
     let told = c.push_all.ensures ∙ ap (λ (r : Receipts). list_of r ++ numbered (c.len-from.result + 1) (drop c.len-from.result all)) c.deref_mut.ensures.value in
     rw (sym c.pass.view_is, sym c.self.view_is)
