@@ -72,12 +72,6 @@ pub record IsSettledPart (config : Config) (limit : ℕ) (serial : Bool) (lines 
   pub same_limit : k.limit ≡ limit
   pub part : IsFirstPart serial lines k.history
 
--- what is known of each run, also of one that isn't whole
-abbrev pub IsPart : Config → ℕ → Bool → List (Line Global) → Kept Global → Type 0
-IsPart config limit serial lines k =
-    IsSettledPart config limit serial lines k
-    ⊎ ((fault : SettleFault) × IsUnsettled config limit lines fault k)
-
 -- why a run isn't whole: the host's refusal, or else the settlement's fault
 abbrev pub error_of : Option HostRefused → Option SettleFault → Option RunError
 error_of (Some why) fault = Some (error.Host why)
