@@ -103,11 +103,12 @@ class Checker:
             return None
         if is_last and busy and not self.is_prefix:
             return tuple(f"wanted an event of {who}, found {shown(line)}" for who in busy)
-        if is_last or not busy:
-            return (f"wanted {count}, found {shown(line)}",)
+        wants_count = f"wanted {count}, found {shown(line)}"
+        if is_last:
+            return (wants_count,)
         is_number = f"wanted number {self.run.events + 1}, found {shown(line.split(' ')[0])}"
         no_event = f"wanted the line of an event, found {shown(line)}"
-        return (no_event, is_number)
+        return (no_event, is_number, *([] if busy else [wants_count]))
 
     def event_faults(self, number, who, by, rest, busy, line):
         """Those of a line that begins with a number and a VP. Where several hold, each may be told."""

@@ -1,7 +1,6 @@
 -- What a text that begins with the line of an event begins with, and what stands behind that line.
 use Rattle.std.proofs.Common.{◌≡◌, ℕ, ◌+◌, ◌<◌, ◌≢◌, ◌^◌, List, [], ◌∷◌, ◌++◌, refl, sym, ap, ◌∙◌, subst, arith, append_assoc, length, Bool, true, false, inl, inr, ◌≤◌, All, codes}
-use Rattle.std.proofs.Common.{decimal, nat_eq, not, slice_index_or, eqb-true, Global}
-use Rattle.std.proofs.lemmas.Bool.{false≢true}
+use Rattle.std.proofs.Common.{decimal, Global}
 use Rattle.std.specs.Char.{digit_value}
 use Rattle.std.specs.Str.Parse.{AllDigits, IsNumeral}
 use Rattle.std.proofs.lemmas.Fmt.{decimal_is_IsNumeral}
@@ -107,19 +106,14 @@ no_line_letter more rules number e rest few is =
     let same : first.0 ≡ 101 = let all = first.2 in cc in
     letter (subst (λ (c : ℕ). digit_value c < 10) same first.3)
 
-pub event_none : (text : Bytes) → 1 ≤ length text → not (nat_eq (slice_index_or text 0 0) 101) ≡ false → IsNoLine text
-event_none [] some is = no_line_none
-event_none (c ∷ more) some is = let same : c ≡ 101 = eqb-true c 101 (not_false (nat_eq c 101) is) in subst (λ (x : ℕ). IsNoLine (x ∷ more)) (sym same) (no_line_letter more)
-  where
-    not_false : (b : Bool) → not b ≡ false → b ≡ true
-    not_false true is = refl
-    not_false false is = absurd (false≢true (sym is))
+pub no_line_end : (text rest : Bytes) → text ≡ codes "events " ++ rest → IsNoLine text
+no_line_end text rest is = subst IsNoLine (sym is) (no_line_letter (codes "vents " ++ rest))
 
--- and a text that begins with another byte is no end
-pub no_end : (c : ℕ) (more : Bytes) → c ≢ 101 → IsNoEnd (c ∷ more)
-no_end c more other false events is = other (let same : c ∷ more ≡ 101 ∷ _ = is in cc)
-no_end c more other true events (inl is) = absurd (cc)
-no_end c more other true events (inr is) = other (let same : c ∷ more ≡ 101 ∷ _ = is in cc)
+-- and one that doesn't begin as the last line does is no end
+pub no_end : (text : Bytes) → text ≢ [] → ((rest : Bytes) → text ≡ codes "events " ++ rest → ⊥) → IsNoEnd text
+no_end text some none false events is = none (decimal events ++ codes "\n") (is ∙ append_assoc (codes "events ") (decimal events) (codes "\n"))
+no_end text some none true events (inl empty) = some empty
+no_end text some none true events (inr is) = none (decimal events ++ codes "\n") (is ∙ append_assoc (codes "events ") (decimal events) (codes "\n"))
 
 -- What stands behind a line is one text.
 pub parted : (byte : ℕ) (xs ys cs bs : Bytes) → All (IsNot byte) xs → All (IsNot byte) ys → xs ++ byte ∷ cs ≡ ys ++ byte ∷ bs → (xs ≡ ys) × (cs ≡ bs)

@@ -12,6 +12,7 @@ ghost use Rattle.hv_phases.specs.Schedule.{IsBegun, StandsFor};
 ghost use Rattle.hv_history.specs.Kept.{IsRun};
 ghost use Rattle.hv_check.specs.Verdict.{Says};
 
+use crate::compare::behind;
 use crate::ending::{Ending, end_of};
 use crate::own_line::OwnLine;
 use crate::step::{Step, take_line};
@@ -105,13 +106,13 @@ fn events_of(kept: &Kept<Global>) -> u64
     kept.history().len() as u64
 }
 
-// Returns whether a text begins with the line of an event, assuming that it is an audit.
+// Returns whether an audit goes on with a line that isn't its last.
 fn is_event(text: &[u8]) -> bool
     ensures event { IsTrue result → IsNoEnd text.now }
     ensures none { result ≡ false → IsNoLine text.now }
 {
-    match text {
-        [first, ..] => *first != b'e',
-        [] => false,
+    match behind(text, b"events ") {
+        Some(_) => false,
+        None => !text.is_empty(),
     }
 }

@@ -8,7 +8,7 @@ use crate::compare::behind_line;
 use crate::own_line::OwnLine;
 use crate::reader::processor;
 use crate::verdict::Wrong;
-use hv_history::{HostRefused, Kept};
+use hv_history::{HostRefused, Kept, global};
 use hv_phases::Schedule;
 use hv_policy::{Action, Caller, Event};
 use std::alloc::{AllocError, Global};
@@ -85,7 +85,7 @@ fn take_event<'a>(
 {
     let by = event.by;
     let line = number_of(kept);
-    match kept.apply(event) {
+    match global::apply(kept, event) {
         Ok((_, reply)) => {
             schedule.go_on(by, &reply);
             own.put_last(kept);
