@@ -1,10 +1,11 @@
 // Assembling a text, from its bytes to the exit status.
 ghost use Rattle.std.specs.Prelude.{◌≡◌, ◌≢◌, ◌⊎◌, IfErr, IfOk, IsErr, IsOk, Ok, OnOk};
 ghost use Rattle.std.specs.Io.KnownBytes.{Appends, Keeps};
-ghost use Rattle.hv_asm.specs.Printed.{HasPrinted};
+ghost use Rattle.hv_asm.specs.Printed.{HasPrinted, HasPrintedPart};
 ghost use Rattle.hv_asm.specs.Text.{script_meant};
 ghost use Rattle.hv_asm.specs.declared.fault.AsmFault.TheVariants as asm;
 ghost use Rattle.hv_run.specs.Failure.{exit_of};
+ghost use Rattle.hv_run.specs.Written.{HasPart};
 ghost use Rattle.hv_script.specs.Script.{script_of};
 ghost use Rattle.std.specs.declared.alloc.Global.{Global as GlobalValue};
 
@@ -13,6 +14,7 @@ use crate::hint::Hint;
 use crate::text::assemble;
 use hv_run::{Exit, Failure, tell};
 use hv_script::FaultKind;
+use hv_text::put_bytes;
 use std::alloc::Global;
 use std::io;
 use std::io::Write;
@@ -20,9 +22,11 @@ use std::io::Write;
 /// Writes the script that a text means to `out`.
 ///
 /// If it can't, the reason goes to `err`, in one line. After a fault of the text, nothing is written to
-/// `out`.
+/// `out`, and after a failed write, a first part of the script.
 pub fn asm_text<W: Write, E: Write>(alloc: Global, text: &[u8], out: &mut W, err: &mut E) -> Exit
     ensures printed { result ≡ Exit.Done → HasPrinted text.now (W.contents out.old) (W.contents out.new) }
+    ensures failed { result ≢ Exit.Done → HasPrintedPart text.now (W.contents out.old)
+        (W.contents out.new) }
     ensures fault { result ≡ Exit.Script → IsErr (script_meant text.now) }
     ensures silent { result ≡ Exit.Script → out.new ≡ out.old }
     ensures no_usage { result ≢ Exit.Usage }
@@ -51,6 +55,7 @@ pub fn script_by_names<E: Write>(alloc: Global, text: &[u8], err: &mut E) -> Res
 // Writes a whole script, or tells that it can't be written.
 fn print<W: Write, E: Write>(script: &[u8], out: &mut W, err: &mut E) -> Exit
     ensures printed { result ≡ Exit.Done → Appends (W.contents out.old) (W.contents out.new) script.now }
+    ensures part { HasPart script.now (W.contents out.old) (W.contents out.new) }
     ensures status { (result ≡ Exit.Done) ⊎ (result ≡ Exit.Host) }
 {
     match put(script, out) {
@@ -59,12 +64,13 @@ fn print<W: Write, E: Write>(script: &[u8], out: &mut W, err: &mut E) -> Exit
     }
 }
 
-// Writes a whole text.
+// Writes a whole text. After a failed write, the writer has a first part of it.
 fn put<W: Write>(text: &[u8], out: &mut W) -> Result<(), Failure>
     ensures told { OnOk result (Appends (W.contents out.old) (W.contents out.new) text.now) }
+    ensures part { HasPart text.now (W.contents out.old) (W.contents out.new) }
     ensures host { IfErr result (λ failure. exit_of failure ≡ Exit.Host) }
 {
-    match out.write_all(text) {
+    match put_bytes(out, text) {
         Ok(()) => flush(out),
         Err(_) => Err(Failure::Write),
     }

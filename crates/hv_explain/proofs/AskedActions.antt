@@ -4,7 +4,7 @@ use Rattle.std.proofs.KnownBytes.{Appends-nil}
 use Rattle.std.proofs.lemmas.List.Elements.{All-cons, All-nil, All-push}
 use Rattle.hv_abi.specs.declared.frame.Frame.{Frame}
 use Rattle.hv_history.specs.Kept.{IsRun, Kept}
-use Rattle.hv_history.specs.Run.{AreElements, GoesOnAt, element, restart, start_of}
+use Rattle.hv_history.specs.Run.{AreElements, GoesOnAt, IsMore, element, restart, start_of}
 use Rattle.hv_history.specs.declared.entry.Entry.{Entry}
 use Rattle.hv_policy.specs.Call.{action_of}
 use Rattle.hv_policy.specs.declared.event.Access.{Access}
@@ -34,6 +34,23 @@ elements_push by frame [] now reply is goes =
     (ap (element by) is, subst (λ (f : Frame Global). GoesOnAt (start_of f + 1) reply) is goes, ap (λ (f : Frame Global). restart f (start_of f + 1)) is)
 elements_push by frame (e ∷ es) now reply is goes =
     (is.0, is.1, elements_push by (restart frame (start_of frame + 1)) es now reply is.2 goes)
+
+-- the call ended with an element
+pub ends_whole : (by : Caller) (frame : Frame Global) (before : List (Entry Global)) (now : Frame Global) (reply : Reply) → AreElements by frame before now → (IsMore reply → ⊥)
+    → (n : ℕ) → IsWhole by (Hypercall frame) (receipts_by by n (before ++ record { event = element by now; reply = reply } ∷ []))
+ends_whole by frame before now reply elements ends n =
+    let own = elements_by by frame before now elements in
+    record {
+      last = now;
+      reply = reply;
+      whole = record {
+        before = receipts_by by n before;
+        number = n + length before;
+        elements = subst (λ (l : List (Entry Global)). AreElements by frame l now) (sym (own_entries by n before own)) elements;
+        all = own_push by n before (record { event = element by now; reply = reply }) refl;
+        ends = ends;
+      };
+    }
 
 module _ (tells : Telling) (by : Caller) (old : Kept Global) (v : Option (List ℕ)) where
   -- some elements of a call were told, and `now` is the frame that is to be asked after them
@@ -96,17 +113,7 @@ module _ (tells : Telling) (by : Caller) (old : Kept Global) (v : Option (List �
           own = begun.before ++ last ∷ [];
           history = both.history;
           by_it = All-push (IsBy by) begun.before last before_by refl;
-          ended = inl (λ n. record {
-            last = now;
-            reply = told.reply;
-            whole = record {
-              before = receipts_by by n begun.before;
-              number = n + length begun.before;
-              elements = subst (λ (l : List (Entry Global)). AreElements by frame l now) (sym (own_entries by n begun.before before_by)) begun.elements;
-              all = own_push by n begun.before last refl;
-              ends = told.ends;
-            };
-          });
+          ended = inl (ends_whole by frame begun.before now told.reply begun.elements told.ends);
           within = omega (arith, room, length-append begun.before (last ∷ []));
           few = let less = few_elements by frame begun.before now begun.elements in omega (arith, less, length-append begun.before (last ∷ []));
           config = both.config;
@@ -117,7 +124,7 @@ module _ (tells : Telling) (by : Caller) (old : Kept Global) (v : Option (List �
       }
 
 -- the receipt of an access is all of it
-one_event : (by : Caller) (given : Access) (list : List Receipt) → IsAccess by (action_of given) list → IsWhole by (action_of given) list
+pub one_event : (by : Caller) (given : Access) (list : List Receipt) → IsAccess by (action_of given) list → IsWhole by (action_of given) list
 one_event by (access.ReadMsr msr) list one = one
 one_event by (access.WriteMsr msr value) list one = one
 one_event by (access.ReadSlot sint) list one = one

@@ -1,6 +1,7 @@
 pub mod WrittenLines
 pub mod AskedActions
+pub mod BrokenOff
 pub mod Lines
-mod Following
+pub mod Following
 mod LastEntry
 pub mod RunLines

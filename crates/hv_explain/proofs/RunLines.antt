@@ -22,7 +22,7 @@ pub record HasRunSome (at : Option ℕ) (lines left : List (Line Global)) (entri
   pub within : IfSome at (λ n. length entries ≤ n)
 
 -- or the last event has happened
-abbrev HasReached : Option ℕ → List (Line Global) → List (Entry Global) → Type 0
+abbrev pub HasReached : Option ℕ → List (Line Global) → List (Entry Global) → Type 0
 HasReached at lines entries = AreBegun lines entries × (at ≡ Some (length entries))
 
 -- the lines so far were run
@@ -51,7 +51,7 @@ reached : (at : Option ℕ) (lines : List (Line Global)) (entries : List (Entry 
 reached at lines entries has = subst (λ (a : Option ℕ). AreFirst a lines entries) (sym has.1) (inr (has.0, refl))
 
 -- nothing of the lines that are left
-none_begun : (n : ℕ) (left : List (Line Global)) → IsPart n left []
+pub none_begun : (n : ℕ) (left : List (Line Global)) → IsPart n left []
 none_begun n [] = refl
 none_begun n (line ∷ left) = (All-nil (IsBy line.by), none_stopped line.by line.action)
 

@@ -19,7 +19,7 @@ use Rattle.hv_policy.specs.declared.reply.Reply.{Reply}
 use Rattle.hv_explain.specs.Written.{AreTold, HasHappened, HasPut, HasWritten, HasWrittenOne, IsExplanation, Telling, entry_of, head_text, last_of, state_after}
 use Rattle.hv_words.specs.Words.{IsPlain}
 
-told_append : (tells : Telling) (config : Config) (past xs ys : List (Entry Global)) (s t : List ℕ) → AreTold tells config past xs s → AreTold tells config (past ++ xs) ys t
+pub told_append : (tells : Telling) (config : Config) (past xs ys : List (Entry Global)) (s t : List ℕ) → AreTold tells config past xs s → AreTold tells config (past ++ xs) ys t
     → AreTold tells config past (xs ++ ys) (s ++ t)
 told_append tells config past [] ys s t none told =
     subst (AreTold tells config past ys) (sym (ap (λ (l : List ℕ). l ++ t) none)) (subst (λ (p : List (Entry Global)). AreTold tells config p ys t) (append-nil past) told)

@@ -1,8 +1,10 @@
 // The events of an audit, from both texts to an exit status.
-ghost use Rattle.std.specs.Prelude.{◌≡◌, ◌≢◌, ◌<◌, true, IfErr, IfOk, OnOk, length};
-ghost use Rattle.std.specs.Io.KnownBytes.{Appends};
+ghost use Rattle.std.specs.Prelude.{◌≡◌, ◌≢◌, ◌⊎◌, ◌<◌, true, IfErr, IfOk, OnOk, length};
+ghost use Rattle.std.specs.Io.KnownBytes.{Appends, Keeps};
 ghost use Rattle.hv_check.specs.Legal.{IsLegal, IsLegalOf};
+ghost use Rattle.hv_explain.specs.Cut.{IsCutNext};
 ghost use Rattle.hv_explain.specs.Followed.{HasFollowed, HasFollowedText, IsFollowed};
+ghost use Rattle.hv_explain.specs.Part.{FollowsPart, FollowsPartOf, HasPutPart, HasPutUntil};
 ghost use Rattle.hv_explain.specs.Written.{explains};
 ghost use Rattle.hv_phases.specs.Read.{AreRead};
 ghost use Rattle.hv_run.specs.Failure.{exit_of};
@@ -10,7 +12,7 @@ ghost use Rattle.hv_run.specs.declared.failure.Exit.TheVariants as exit;
 ghost use Rattle.hv_script.specs.Reading.{said};
 
 use crate::audit::{behind_last, is_end};
-use crate::event::explain_event;
+use crate::event::{take_event, tell_event};
 use crate::explainer::Explainer;
 use crate::teller::Teller;
 use hv_check::check_text;
@@ -25,7 +27,8 @@ use std::io::Write;
 /// Explains the events of an audit in its order, each in a line on `out`.
 ///
 /// The audit may end early. If it isn't legal, `out` gets only the first line that isn't, as a check prints
-/// it. A fault of the script, a refused boot and a failure of the host are printed on `err`, in one line.
+/// it. A fault of the script, a refused boot and a failure of the host are printed on `err`, in one line. If
+/// the host fails at a legal audit, `out` has a first part of the lines.
 pub fn follow_text<W: Write, E: Write>(
     alloc: Global,
     script: &[u8],
@@ -35,6 +38,8 @@ pub fn follow_text<W: Write, E: Write>(
 ) -> Exit
     ensures told { result ≡ Exit.Done → HasFollowedText explains script.now audit.now (W.contents out.old)
         (W.contents out.new) }
+    ensures failed { result ≢ Exit.Done → IsLegalOf true true script.now audit.now
+        → HasPutPart (FollowsPartOf explains script.now audit.now) (W.contents out.old) (W.contents out.new) }
     ensures legal { result ≡ Exit.Done → IsLegalOf true true script.now audit.now }
     ensures illegal { result ≡ Exit.Script → IsLegalOf true true script.now audit.now → ⊥ }
     ensures no_usage { result ≢ Exit.Usage }
@@ -55,6 +60,8 @@ pub fn follow_with<T: Teller, W: Write, E: Write>(
 ) -> Exit
     ensures told { result ≡ Exit.Done → HasFollowedText T.tells script.now audit.now (W.contents out.old)
         (W.contents out.new) }
+    ensures failed { result ≢ Exit.Done → IsLegalOf true true script.now audit.now
+        → HasPutPart (FollowsPartOf T.tells script.now audit.now) (W.contents out.old) (W.contents out.new) }
     ensures legal { result ≡ Exit.Done → IsLegalOf true true script.now audit.now }
     ensures illegal { result ≡ Exit.Script → IsLegalOf true true script.now audit.now → ⊥ }
     ensures no_usage { result ≢ Exit.Usage }
@@ -90,20 +97,42 @@ fn explain_audit<T: Teller, W: Write, E: Write>(
 ) -> Exit
     ensures told { result ≡ Exit.Done → HasFollowedText T.tells script.now audit.now (W.contents out.old)
         (W.contents out.new) }
+    ensures failed { result ≢ Exit.Done → HasPutPart (FollowsPartOf T.tells script.now audit.now)
+        (W.contents out.old) (W.contents out.new) }
     ensures illegal { result ≡ Exit.Script → IsLegalOf true true script.now audit.now → ⊥ }
     ensures no_usage { result ≢ Exit.Usage }
 {
-    match parse(alloc, script) {
-        Ok(script) => match follow_script(alloc, teller, script, audit, out) {
-            Ok(()) => Exit::Done,
-            Err(failure) => tell(failure, err),
-        },
-        Err(fault) => tell(Failure::from(fault), err),
+    match tell_audit(alloc, teller, script, audit, out) {
+        Ok(()) => Exit::Done,
+        Err(failure) => tell(failure, err),
     }
 }
 
-// Takes the events of an audit, and tells of them. It fails at a line that isn't the policy's, which no legal
-// audit has.
+/// Takes the events of an audit in its order, and lets the teller write about each on `out`.
+///
+/// It stops at the first failure, and at a line that isn't the policy's, which no legal audit has. The output
+/// is then a first part of what is told of the first events, and all of it unless a write failed.
+pub fn tell_audit<T: Teller, W: Write>(
+    alloc: Global,
+    teller: &mut T,
+    script: &[u8],
+    audit: &[u8],
+    out: &mut W,
+) -> Result<(), Failure>
+    ensures told { OnOk result (HasFollowedText T.tells script.now audit.now (W.contents out.old)
+        (W.contents out.new)) }
+    ensures failed { IfErr result (λ failure. HasPutUntil failure
+        (FollowsPartOf T.tells script.now audit.now) (W.contents out.old) (W.contents out.new)) }
+    ensures illegal { IfErr result (λ failure. exit_of failure ≡ exit.Script
+        → IsLegalOf true true script.now audit.now → ⊥) }
+{
+    match parse(alloc, script) {
+        Ok(script) => follow_script(alloc, teller, script, audit, out),
+        Err(fault) => Err(Failure::from(fault)),
+    }
+}
+
+// Takes the events of an audit, and tells of them.
 fn follow_script<T: Teller, W: Write>(
     alloc: Global,
     teller: &mut T,
@@ -114,6 +143,8 @@ fn follow_script<T: Teller, W: Write>(
     requires { AreRead script.lines.items }
     ensures told { OnOk result
         (HasFollowed T.tells (said script) audit.now (W.contents out.old) (W.contents out.new)) }
+    ensures failed { IfErr result (λ failure. HasPutUntil failure
+        (FollowsPart T.tells (said script) audit.now) (W.contents out.old) (W.contents out.new)) }
     ensures refused { IfErr result (λ failure. exit_of failure ≡ exit.Script
         → IsLegal true true (said script) audit.now → ⊥) }
 {
@@ -128,9 +159,10 @@ fn follow_script<T: Teller, W: Write>(
         Err(refused) => return Err(Failure::from(refused)),
     };
     let mut schedule = Schedule::new(alloc, lines);
+    let mut room = Vec::new(alloc);
     let mut left = audit;
     while let Some(by) = caller_in(left) {
-        left = follow_event(&mut kept, &mut schedule, by, teller, left, out)?;
+        left = follow_event(&mut kept, &mut schedule, by, teller, &mut room, left, out)?;
     }
     if !is_end(left, kept.history().len() as u64) {
         return Err(Failure::Differs);
@@ -147,11 +179,15 @@ fn follow_event<'a, T: Teller, W: Write>(
     schedule: &mut Schedule,
     by: Caller,
     teller: &mut T,
+    room: &mut Vec<u8>,
     text: &'a [u8],
     out: &mut W,
 ) -> Result<&'a [u8], Failure>
     ensures followed { IfOk result (λ rest. IsFollowed T.tells kept.old kept.new schedule.old schedule.new
         text.now rest.now (W.contents out.old) (W.contents out.new)) }
+    ensures cut { IfErr result (λ failure. Keeps (W.contents out.old) (W.contents out.new)
+        ⊎ IsCutNext T.tells failure kept.old kept.new schedule.old schedule.new text.now
+        (W.contents out.old) (W.contents out.new)) }
     ensures shorter { IfOk result (λ rest. length rest.now < length text.now) }
     ensures host { IfErr result (λ failure. exit_of failure ≡ exit.Host) }
 {
@@ -161,11 +197,15 @@ fn follow_event<'a, T: Teller, W: Write>(
     let Some(action) = schedule.next(by) else {
         return Err(Failure::Differs);
     };
-    let reply = explain_event(kept, by, action, teller, out)?;
+    let (reply, effect) = take_event(kept, by, action)?;
+    let Some(rest) = behind_last(kept, text) else {
+        return Err(Failure::Differs);
+    };
+    let told = tell_event(kept, by, action, &reply, &effect, teller, room, out);
     schedule.go_on(by, &reply);
-    match behind_last(kept, text) {
-        Some(rest) => Ok(rest),
-        None => Err(Failure::Differs),
+    match told {
+        Ok(()) => Ok(rest),
+        Err(failure) => Err(failure),
     }
 }
 

@@ -14,9 +14,13 @@
 //!
 //! A [`Teller`] decides what is written about an event. It gets the event's effect, which is that of its
 //! step. This crate's own writes the words, and other crates have tellers of their own. [`explain_with`] runs
-//! a script with any teller, and [`follow_with`] takes the events of an audit with any teller.
-//! [`explain_lines`] runs a script's lines on a machine, up to an event. [`explain_last`] explains the last
-//! event of a history that was taken before.
+//! a script with any teller, and [`follow_with`] takes the events of an audit with any teller. So do
+//! [`tell_script`] and [`tell_audit`], which return a failure. [`explain_lines`] runs a script's lines on a
+//! machine, up to an event. [`explain_last`] explains the last event of a history that was taken before.
+//! [`happen`] takes an event, and tells its effect.
+//!
+//! Each text is built before it is written. After a failure the output is a first part of what is told of the
+//! first events: `specs/Part.antt`.
 #![tactic(auto)]
 
 mod audit;
@@ -24,12 +28,14 @@ mod event;
 mod explainer;
 mod follow;
 mod last;
+mod put;
 mod run;
 mod script;
 mod teller;
 
-pub use follow::{follow_text, follow_with};
+pub use event::happen;
+pub use follow::{follow_text, follow_with, tell_audit};
 pub use last::explain_last;
 pub use run::explain_lines;
-pub use script::{explain_text, explain_with};
+pub use script::{explain_text, explain_with, tell_script};
 pub use teller::Teller;

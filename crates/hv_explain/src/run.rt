@@ -3,6 +3,8 @@ ghost use Rattle.std.specs.Prelude.{◌≡◌, ◌<◌, ◌-◌, [], IfErr, IfOk
 ghost use Rattle.hv_history.specs.Kept.{IsRun};
 ghost use Rattle.hv_policy.specs.declared.event.Action.TheVariants.{Hypercall};
 ghost use Rattle.hv_run.specs.Failure.{exit_of};
+ghost use Rattle.hv_explain.specs.Cut.{IsCut, IsCutLine};
+ghost use Rattle.hv_explain.specs.Part.{HasPutUntil, TellsFirst};
 ghost use Rattle.hv_explain.specs.Written.{HasWrittenElement, HasWrittenLines, HasWrittenUpTo};
 
 use crate::event::explain_event;
@@ -16,8 +18,10 @@ use std::alloc::Global;
 use std::io::Write;
 
 /// Runs the lines of a script in order until this many events have happened, and lets the teller write about
-/// each event. It stops at the first event that the host refuses, or whose text can't be written.
+/// each event. It stops at the first event that the host refuses, or whose text can't be written. The output
+/// is then a first part of what is told of the first events.
 pub fn explain_lines<T: Teller, W: Write>(
+    alloc: Global,
     kept: &mut Kept<Global>,
     lines: &[Line<Global>],
     at: Option<u64>,
@@ -27,17 +31,21 @@ pub fn explain_lines<T: Teller, W: Write>(
     requires { kept.old.history ≡ [] }
     ensures told { OnOk result (HasWrittenLines T.tells at lines.now kept.old kept.new (W.contents out.old)
         (W.contents out.new)) }
+    ensures failed { IfErr result (λ failure. HasPutUntil failure
+        (TellsFirst T.tells kept.old.config kept.old.limit lines.now) (W.contents out.old)
+        (W.contents out.new)) }
     ensures run { IsRun kept.new }
     ensures host { IfErr result (λ failure. exit_of failure ≡ Exit.Host) }
 {
     // Proof: the history is a run.
     let _history = kept.history();
+    let mut room = Vec::new(alloc);
     for place in 0..lines.len() {
         let most = events_to(at, kept.history().len());
         if most == 0 {
             return Ok(());
         }
-        explain_line(kept, &lines[place], most, teller, out)?;
+        explain_line(kept, &lines[place], most, teller, &mut room, out)?;
     }
     Ok(())
 }
@@ -60,21 +68,26 @@ fn explain_line<T: Teller, W: Write>(
     line: &Line<Global>,
     most: u32,
     teller: &mut T,
+    room: &mut Vec<u8>,
     out: &mut W,
 ) -> Result<(), Failure>
     requires { 0 < most }
     ensures told { OnOk result (HasWrittenUpTo T.tells line.now.by line.now.action most kept.old kept.new
         (W.contents out.old)
         (W.contents out.new)) }
+    ensures cut { IfErr result (λ failure. IsCutLine T.tells line.now.by line.now.action failure kept.old
+        (W.contents out.old) (W.contents out.new)) }
     ensures run { IsRun kept.new }
     ensures host { IfErr result (λ failure. exit_of failure ≡ Exit.Host) }
 {
+    // Proof: the history is a run.
+    let _history = kept.history();
     match line.action.as_access() {
-        Ok(_) => match explain_event(kept, line.by, &line.action, teller, out) {
+        Ok(_) => match explain_event(kept, line.by, &line.action, teller, room, out) {
             Ok(_) => Ok(()),
             Err(failure) => Err(failure),
         },
-        Err(frame) => explain_call(kept, line.by, frame, most, teller, out),
+        Err(frame) => explain_call(kept, line.by, frame, most, teller, room, out),
     }
 }
 
@@ -85,12 +98,15 @@ fn explain_call<T: Teller, W: Write>(
     frame: &Frame<Global>,
     most: u32,
     teller: &mut T,
+    room: &mut Vec<u8>,
     out: &mut W,
 ) -> Result<(), Failure>
     requires { 0 < most }
     ensures told { OnOk result (HasWrittenUpTo T.tells by (Hypercall frame.now) most kept.old kept.new
         (W.contents out.old)
         (W.contents out.new)) }
+    ensures cut { IfErr result (λ failure. IsCutLine T.tells by (Hypercall frame.now) failure kept.old
+        (W.contents out.old) (W.contents out.new)) }
     ensures run { IsRun kept.new }
     ensures host { IfErr result (λ failure. exit_of failure ≡ Exit.Host) }
 {
@@ -101,7 +117,7 @@ fn explain_call<T: Teller, W: Write>(
     };
     let mut left = most;
     loop {
-        match explain_element(kept, by, &now, teller, out) {
+        match explain_element(kept, by, &now, teller, room, out) {
             Ok(Some(next)) => now = now.with_start(next),
             Ok(None) => return Ok(()),
             Err(failure) => return Err(failure),
@@ -120,9 +136,12 @@ fn explain_element<T: Teller, W: Write>(
     by: Caller,
     frame: &Frame<Global>,
     teller: &mut T,
+    room: &mut Vec<u8>,
     out: &mut W,
 ) -> Result<Option<u16>, Failure>
     ensures told { IfOk result (λ next. HasWrittenElement T.tells by frame.now next kept.old kept.new
+        (W.contents out.old) (W.contents out.new)) }
+    ensures cut { IfErr result (λ failure. IsCut T.tells by (Hypercall frame.now) failure kept.old kept.new
         (W.contents out.old) (W.contents out.new)) }
     ensures run { IsRun kept.new }
     ensures host { IfErr result (λ failure. exit_of failure ≡ Exit.Host) }
@@ -132,7 +151,7 @@ fn explain_element<T: Teller, W: Write>(
     let Ok(own) = frame.copy() else {
         return Err(Failure::Memory);
     };
-    match explain_event(kept, by, &Action::Hypercall(own), teller, out) {
+    match explain_event(kept, by, &Action::Hypercall(own), teller, room, out) {
         Ok(reply) => Ok(next_of(reply.parts().0)),
         Err(failure) => Err(failure),
     }

@@ -1,6 +1,8 @@
+use Rattle.std.proofs.KnownBytes.{Keeps-refl}
 use Rattle.std.proofs.Common.{◌≡◌, ◌+◌, ◌<◌, ℕ, arith, length, subst, Option}
 use Rattle.hv_explain.specs.Written.{HasWrittenElement}
 use Rattle.hv_explain.proofs.AskedActions.{begun_ends, begun_more, begun_none, begun_stops, more_count}
+use Rattle.hv_explain.proofs.BrokenOff.{cut_element, none_cut}
 use Rattle.hv_explain.proofs.run.explain_call.Goals as goal
 
 pub loop-next-init : goal.loop-next-init
@@ -45,3 +47,12 @@ loop-next-preserved g c =
       (let some = was.2 in omega (arith, some, c.if-left-eq0.false)),
       c.in-Ok-Some.ensures.run,
     )
+
+pub returns-in_default-clause-cut : goal.returns-in_default-clause-cut
+returns-in_default-clause-cut g c = none_cut g.T.Teller.tells c.args.by _ _ c.args.kept.now _ _ c.history-history.ensures.run (Keeps-refl _)
+
+pub returns-in-Err-clause-cut : goal.returns-in-Err-clause-cut
+returns-in-Err-clause-cut g c =
+    let was = c.loop-next.invariant in
+    cut_element g.T.Teller.tells c.args.by c.args.frame.now c.loop-next.now c.in-Err.failure c.args.kept.now c.loop-next.kept c.explain_element.new.kept _ _ _ was.0 was.3 c.explain_element.ensures.run
+    c.in-Err.ensures.cut

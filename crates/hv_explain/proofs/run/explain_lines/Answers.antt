@@ -1,6 +1,8 @@
 use Rattle.std.proofs.Common.{◌≡◌, ◌∙◌, ◌+◌, ◌<◌, ℕ, List, [], ◌∷◌, Option, add-one, ap, arith, drop, get_or, length, subst, sym, Global}
 use Rattle.std.proofs.Math.Seq.{drop-cons}
 use Rattle.std.proofs.lemmas.List.{drop_all}
+use Rattle.std.proofs.lemmas.Result.{err_from_is_err_and}
+use Rattle.hv_explain.proofs.BrokenOff.{lines_cut}
 use Rattle.hv_explain.proofs.Lines.{told_ends, told_first, told_more, told_stops}
 use Rattle.hv_explain.proofs.RunLines.{AreMost}
 use Rattle.hv_explain.proofs.run.explain_lines.Goals as goal
@@ -42,3 +44,15 @@ pub returns-clause-told : goal.returns-clause-told
 returns-clause-told g c =
     told_ends g.T.Teller.tells c.args.at c.args.lines.now c.args.kept.now (g.W.Write.contents c.args.out.now) (drop c.loop-place.place c.args.lines.now) c.loop-place.kept _
     (drop_all c.loop-place.place c.args.lines.now (omega (arith, c.loop-place-test.false))) c.loop-place.invariant.so_far
+
+pub returns-in_err-explain_line-clause-failed : goal.returns-in_err-explain_line-clause-failed
+returns-in_err-explain_line-clause-failed g c =
+    let lines : List (Line Global) = c.args.lines.now in
+    let line : Line Global = c.index-lines-place.result in
+    let place = c.loop-place.place in
+    let is : drop place lines ≡ line ∷ drop (place + 1) lines = front lines place line c.loop-place-test.true c.index-lines-place.is in
+    let room = room_of c.args.at (c.len.ensures ∙ ap length c.history.ensures.list) (record { none = c.events_to-most.ensures.none; some = c.events_to-most.ensures.some }) in
+    let p = err_from_is_err_and c.from_residual.result c.from_residual.ensures.1 in
+    rw (p.1, p.2)
+    (lines_cut g.T.Teller.tells c.args.at lines (drop place lines) (drop (place + 1) lines) line _ c.args.kept.now c.loop-place.kept c.events_to-most.result _ _ _ c.requires is room
+    (omega (arith, c.if-most-eq0.false)) c.loop-place.invariant.so_far c.in_err-explain_line.ensures.cut)

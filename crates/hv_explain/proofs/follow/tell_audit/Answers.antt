@@ -1,5 +1,5 @@
 use Rattle.hv_check.proofs.Reading.{script_read}
-use Rattle.hv_explain.proofs.follow.explain_audit.Goals as goal
+use Rattle.hv_explain.proofs.follow.tell_audit.Goals as goal
 use Rattle.hv_script.specs.Reading.{said}
 
 pub follow_script-requires : goal.follow_script-requires
