@@ -12,12 +12,14 @@ _hvpm() {
         explain | report) words="--names --help" ;;
         trace) words="--perfetto --names --help" ;;
         serve) words="--json --help" ;;
-        draw) words="--at --sequence --names --help" ;;
+        draw) words="--sequence --to --from --only --names --help" ;;
         asm) words="--help" ;;
         help) words="run check explain trace report serve draw asm help" ;;
     esac
-    # The number behind --at is typed by hand.
-    [[ ${COMP_WORDS[COMP_CWORD-1]} != --at ]] || { COMPREPLY=(); return; }
+    # What follows these is typed by hand.
+    case ${COMP_WORDS[COMP_CWORD-1]} in
+        --to | --from | --only) COMPREPLY=(); return ;;
+    esac
     mapfile -t COMPREPLY < <(compgen -W "$words" -- "$current")
     case $command in
         run | check | explain | trace | report | draw | asm)

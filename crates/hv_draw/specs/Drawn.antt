@@ -1,5 +1,5 @@
 -- The meaning of a drawing.
-use Rattle.std.specs.Prelude.{ℕ, ◌≡◌, ◌++◌, List, [], Ok, Option, length}
+use Rattle.std.specs.Prelude.{ℕ, ◌≡◌, ◌⊎◌, ◌++◌, List, [], Ok, Option, length}
 use Rattle.std.specs.FinMap.{entries, keys}
 use Rattle.std.specs.Io.KnownBytes.{Appends}
 use Rattle.std.specs.declared.alloc.Global.{Global}
@@ -7,6 +7,7 @@ use Rattle.hv_explain.specs.First.{AreFirst}
 use Rattle.hv_explain.specs.Written.{Telling}
 use Rattle.hv_history.specs.Kept.{IsRun, Kept}
 use Rattle.hv_partition.specs.Partition.{PartitionState}
+use Rattle.hv_run.specs.Written.{HasPart}
 use Rattle.hv_script.specs.Script.{Said, script_of}
 use Rattle.hv_refine.specs.Room.{roomless}
 use Rattle.hv_tree.specs.Rows.{Rows}
@@ -48,3 +49,15 @@ pub record HasDrawnOf (text : List ℕ) (at : Option ℕ) (old new : Option (Lis
   pub said : Said Global
   pub is : script_of text ≡ Ok said
   pub drawn : HasDrawn said at old new
+
+-- the writer gets a first part of the graph of a machine after a run
+pub record HasCutGraph (old new : Option (List ℕ)) : Type 0 where
+  pub kept : Kept Global
+  pub run : IsRun kept
+  pub text : List ℕ
+  pub graph : IsGraph kept text
+  pub told : HasPart text old new
+
+-- whatever the status is: nothing, or a first part of a graph
+abbrev pub HasDrawnPart : Option (List ℕ) → Option (List ℕ) → Type 0
+HasDrawnPart old new = (new ≡ old) ⊎ HasCutGraph old new

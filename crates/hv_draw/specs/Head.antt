@@ -52,34 +52,59 @@ name_text vp x y foot =
     text_at (codes "<text class=\"vp\" x=\"") x y ++ index_text vp
     ++ text_at (codes "<text class=\"of\" x=\"") x foot ++ partition_text vp.part
 
--- the lane of a processor: a line, and the processor's name above and below it
-pub record IsLane (text : List ℕ) : Type 0 where
-  pub vp : Caller
-  pub x : ℕ
-  pub end : ℕ
-  pub below : ℕ
+-- the name of this processor at this x
+pub record IsName (vp : Caller) (x : ℕ) (text : List ℕ) : Type 0 where
+  pub y : ℕ
   pub foot : ℕ
-  pub is : text ≡ line_text x end ++ name_text vp x 36 50 ++ name_text vp x below foot ++ codes "\n"
+  pub is : text ≡ name_text vp x y foot
 
 -- texts one after another
 abbrev pub joined : List (List ℕ) → List ℕ
 joined [] = []
 joined (text ∷ texts) = text ++ joined texts
 
--- a text gains a lane
-pub record HasLane (old new : List ℕ) : Type 0 where
-  pub lane : List ℕ
-  pub is : IsLane lane
-  pub added : new ≡ old ++ lane
+-- the lane of a processor: a line, and the processor's name above it, below it and at any other heights
+pub record IsLane (text : List ℕ) : Type 0 where
+  pub vp : Caller
+  pub x : ℕ
+  pub end : ℕ
+  pub below : ℕ
+  pub foot : ℕ
+  pub names : List (List ℕ)
+  pub are : All (IsName vp x) names
+  pub is : text ≡ line_text x end ++ name_text vp x 36 50 ++ name_text vp x below foot ++ joined names ++
+      codes "\n"
 
--- a text gains lanes
-pub record HasLanes (old new : List ℕ) : Type 0 where
-  pub lanes : List (List ℕ)
-  pub are : All IsLane lanes
-  pub added : new ≡ old ++ joined lanes
+-- the end of a phase: a dashed line, and a text above it
+unfoldable pub end_text : ℕ → ℕ → ℕ → ℕ → List ℕ
+end_text y right foot phase =
+    marked (codes "<path class=\"lane\" stroke-dasharray=\"2 4\" d=\"M44 ") y ++ marked (codes "H") right
+    ++ marked (codes "\"/><text x=\"48\" y=\"") foot ++ marked (codes "\">phase ") phase ++ codes
+    " ends</text>\n"
+
+pub record IsEnd (text : List ℕ) : Type 0 where
+  pub y : ℕ
+  pub right : ℕ
+  pub foot : ℕ
+  pub phase : ℕ
+  pub is : text ≡ end_text y right foot phase
+
+-- a text gains a part of this kind
+pub record HasOne (Is : List ℕ → Type 0) (old new : List ℕ) : Type 0 where
+  pub own : List ℕ
+  pub is : Is own
+  pub added : new ≡ old ++ own
+
+-- a text gains parts of this kind
+pub record HasSome (Is : List ℕ → Type 0) (old new : List ℕ) : Type 0 where
+  pub own : List (List ℕ)
+  pub are : All Is own
+  pub added : new ≡ old ++ joined own
 
 -- the text is the head of a chart
 pub record IsHead (text : List ℕ) : Type 0 where
   pub width : ℕ
   pub height : ℕ
-  pub lanes : HasLanes (size_text width height ++ style_text ++ ground_text) text
+  pub middle : List ℕ
+  pub lanes : HasSome IsLane (size_text width height ++ style_text ++ ground_text) middle
+  pub ends : HasSome IsEnd middle text

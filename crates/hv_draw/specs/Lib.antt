@@ -1,3 +1,4 @@
+pub mod Choice
 pub mod Drawn
 pub mod Graph
 pub mod Head

@@ -1,6 +1,7 @@
 -- The text of a sequence chart.
-use Rattle.std.specs.Prelude.{ℕ, ◌≡◌, ◌++◌, ◌==◌, ◌||◌, List, [], ◌∷◌, codes, decimal, Bool, true, false}
-use Rattle.std.specs.Prelude.{Option, None, Some}
+use Rattle.std.specs.Prelude.{ℕ, ◌≡◌, ◌⊎◌, ◌++◌, ◌==◌, ◌&&◌, ◌||◌, List, [], ◌∷◌, codes, decimal, Bool}
+use Rattle.std.specs.Prelude.{true, false, Option, None, Some}
+use Rattle.std.specs.Borrow.{Bor}
 use Rattle.std.specs.Io.KnownBytes.{Appends}
 use Rattle.std.specs.Option.{option_map_or}
 use Rattle.std.specs.declared.alloc.Global.{Global}
@@ -11,6 +12,8 @@ use Rattle.hv_abi.specs.declared.call_kind.CallKind.TheVariants as call
 use Rattle.hv_defs.specs.declared.registers.TheConstants.{EOM}
 use Rattle.hv_effect.specs.declared.effect.Effect.{Effect}
 use Rattle.hv_effect.specs.declared.effect.Effect.TheVariants as effect
+use Rattle.hv_check.specs.Legal.{IsLegalOf}
+use Rattle.hv_explain.specs.Followed.{HasFollowedText}
 use Rattle.hv_explain.specs.Written.{HasExplainedText, Telling}
 use Rattle.hv_history.specs.declared.entry.Entry.{Entry}
 use Rattle.hv_policy.specs.Rule.{rule_name}
@@ -20,11 +23,14 @@ use Rattle.hv_policy.specs.declared.event.Action.TheVariants.{ClearSlot, ReadFla
 use Rattle.hv_policy.specs.declared.event.Caller.{Caller}
 use Rattle.hv_policy.specs.declared.reply.Reply.{Reply}
 use Rattle.hv_policy.specs.declared.reply.Reply.TheVariants.{Served, More, Denied, Fault}
+use Rattle.hv_run.specs.Written.{HasPart}
 use Rattle.hv_text.specs.Audit.{caller_text}
 use Rattle.hv_defs.specs.Registers.{name_of_msr}
 use Rattle.hv_words.specs.Words.{IsQuotable}
+use Rattle.hv_draw.specs.Choice.{is_chosen}
 use Rattle.hv_draw.specs.Head.{IsHead}
 use Rattle.hv_draw.specs.Shapes.{shapes_text}
+use Rattle.hv_draw.specs.declared.choice.Choice.{Choice}
 use Rattle.hv_draw.specs.declared.shapes.Shapes.{Shapes}
 
 -- whether a call of this kind posts a message, signals, or makes or ends a partition, a processor, a port or
@@ -124,11 +130,15 @@ pub record IsRow (number : ℕ) (e : Entry Global) (effect : Effect) (text : Lis
   pub quotable_label : IsQuotable label
   pub is : text ≡ row_text number e.event.by e.reply effect words shapes label
 
--- what a chart has of an event: its row, or nothing if it has none
-abbrev pub charts : Telling
-charts number e effect text =
-    (has_row e.event.what effect ≡ true → IsRow number e effect text) ×
-    (has_row e.event.what effect ≡ false → text ≡ [])
+-- whether a chart shows an event: it has a row, and is chosen
+abbrev pub is_shown : Choice → ℕ → Caller → Action Global → Effect → Bool
+is_shown choice number by what effect = has_row what effect && is_chosen choice number by effect
+
+-- what a chart has of an event: its row, or nothing if it doesn't show it
+abbrev pub charts : Choice → Telling
+charts choice number e effect text =
+    (is_shown choice number e.event.by e.event.what effect ≡ true → IsRow number e effect text) ×
+    (is_shown choice number e.event.by e.event.what effect ≡ false → text ≡ [])
 
 -- what a chart says if it has no rows
 abbrev pub none_text : List ℕ → List ℕ
@@ -147,9 +157,43 @@ pub record HasChart (rows : List ℕ) (before after : Option (List ℕ)) : Type 
   pub chart : IsChart rows text
   pub wrote : Appends before after text
 
--- the writer gets a chart of the run of the script with this text: the row of each event that has one, in
--- order
-pub record HasSequence (script : List ℕ) (before after : Option (List ℕ)) : Type 0 where
+-- the writer gets a first part of a chart with these rows, or nothing
+pub record HasCut (rows : List ℕ) (before after : Option (List ℕ)) : Type 0 where
+  pub text : List ℕ
+  pub chart : IsChart rows text
+  pub wrote : HasPart text before after
+
+abbrev pub HasChartPart : List ℕ → Option (List ℕ) → Option (List ℕ) → Type 0
+HasChartPart rows before after = (after ≡ before) ⊎ HasCut rows before after
+
+-- a text is told of the events of the script with this text, or of its audit's events
+abbrev pub AreRows : Telling → List ℕ → Option (Bor (List ℕ)) → List ℕ → List ℕ → Type 0
+AreRows tells script None before after = HasExplainedText tells script (Some before) (Some after)
+AreRows tells script (Some audit) before after =
+    HasFollowedText tells script audit.now (Some before) (Some after)
+
+-- the writer gets a chart of the run of the script with this text, or of its audit's events: the row of each
+-- event that the chart shows, in order
+pub record HasSequence (script : List ℕ) (audit : Option (Bor (List ℕ))) (choice : Choice)
+    (before after : Option (List ℕ)) : Type 0 where
   pub rows : List ℕ
-  pub told : HasExplainedText charts script (Some []) (Some rows)
+  pub told : AreRows (charts choice) script audit [] rows
   pub chart : HasChart rows before after
+
+-- the audit is legal, if there is one
+abbrev pub IsTaken : List ℕ → Option (Bor (List ℕ)) → Type 0
+IsTaken script None = Unit {0}
+IsTaken script (Some audit) = IsLegalOf true true script audit.now
+
+-- as `HasSequence`, for a first part of the chart
+pub record HasSequenceCut (script : List ℕ) (audit : Option (Bor (List ℕ))) (choice : Choice)
+    (before after : Option (List ℕ)) : Type 0 where
+  pub rows : List ℕ
+  pub told : AreRows (charts choice) script audit [] rows
+  pub chart : HasCut rows before after
+
+-- the writer gets nothing, or a first part of such a chart
+abbrev pub HasSequencePart : List ℕ → Option (Bor (List ℕ)) → Choice → Option (List ℕ) → Option (List ℕ)
+    → Type 0
+HasSequencePart script audit choice before after =
+    (after ≡ before) ⊎ HasSequenceCut script audit choice before after

@@ -1,18 +1,19 @@
 // The rows of a sequence chart.
 ghost use Rattle.std.specs.Prelude.{OnOk};
 ghost use Rattle.std.specs.Io.KnownBytes.{Appends};
+ghost use Rattle.hv_explain.specs.Written.{HasPut, entry_of};
 ghost use Rattle.hv_words.specs.Words.{IsQuotable};
-ghost use Rattle.hv_draw.specs.Sequence.{class_text, opening_text, reach_text, row_text, waits_text};
+ghost use Rattle.hv_draw.specs.Sequence.{IsRow, class_text, opening_text, reach_text, row_text, waits_text};
 
 use crate::arrows::{arrow_label, push_arrow};
 use crate::lanes::Lanes;
+use crate::layout::Layout;
 use crate::notes::{note_label, push_note};
+use crate::phases::Phases;
 use crate::put::put_number;
-use crate::rowed::has_row;
 use crate::shapes::{Mark, Place, Shapes, put_shapes};
 use crate::ways::way_of;
 use hv_effect::Effect;
-use hv_explain::Teller;
 use hv_history::Kept;
 use hv_policy::{Action, Caller, Reply};
 use hv_refine::Partitions;
@@ -21,31 +22,33 @@ use std::alloc::{AllocError, Global};
 use std::io;
 use std::io::Write;
 
-/// Writes the row of each event that has one, in a line.
+/// Writes the rows of events, each in a line.
 #[derive(Drop)]
 pub(crate) struct Chart {
     lanes: Lanes,
-    rows: u64,
+    layout: Layout,
+    phases: Phases,
     words: Words,
     text: Words,
 }
 
 impl Chart {
-    /// Creates a chart without rows.
-    pub(crate) fn new(alloc: Global) -> Chart {
+    /// Creates a chart without rows, of a script with these phases.
+    pub(crate) fn new(alloc: Global, phases: Phases) -> Chart {
         Chart {
             lanes: Lanes::new(alloc),
-            rows: 0,
+            layout: Layout::new(alloc),
+            phases,
             words: Words::new(),
             text: Words::new(),
         }
     }
 
-    /// The chart of the same run, again without rows. Its lanes are those of this one, by partition.
-    pub(crate) fn again(mut self) -> Result<Chart, AllocError> {
-        self.lanes.sort()?;
-        self.rows = 0;
-        Ok(self)
+    /// Removes all rows, for the chart of the same run. Its lanes are those of this one, by partition.
+    pub(crate) fn restart(&mut self) -> Result<(), AllocError> {
+        self.layout.restart();
+        self.phases.restart();
+        self.lanes.sort()
     }
 
     /// The processors that have a lane, each by its partition and its index there.
@@ -53,9 +56,45 @@ impl Chart {
         self.lanes.as_slice()
     }
 
-    /// The number of rows.
-    pub(crate) fn rows(&self) -> u64 {
-        self.rows
+    /// Where the rows are.
+    pub(crate) fn layout(&self) -> &Layout {
+        &self.layout
+    }
+
+    /// Takes the reply to an event.
+    pub(crate) fn take(&mut self, reply: &Reply) {
+        self.phases.take(reply);
+    }
+
+    /// Writes the row of an event, the last one of a history.
+    pub(crate) fn put<W: Write>(
+        &mut self,
+        kept: &Kept<Global>,
+        number: u64,
+        by: Caller,
+        what: &Action<Global>,
+        reply: &Reply,
+        effect: &Effect,
+        out: &mut W,
+    ) -> io::Result<()>
+        ensures { OnOk result (HasPut (IsRow number (entry_of by what.now reply.now) effect.now)
+            (W.contents out.old)
+            (W.contents out.new)) }
+    {
+        let tree = kept.machine().tree();
+        self.words.clear();
+        push_event(&mut self.words, tree, by, what, reply);
+        let shapes = self.draw(tree, by, what, reply, effect)?;
+        put_row(
+            out,
+            number,
+            by,
+            reply,
+            effect,
+            &self.words,
+            shapes,
+            &self.text,
+        )
     }
 
     // Draws the next row, of this event, with its text. These are the partitions after it.
@@ -73,8 +112,7 @@ impl Chart {
             Some(way) => self.lanes.take(way.to)?,
             None => from,
         };
-        let place = Place::new(self.rows, from, to);
-        self.rows = self.rows.saturating_add(1);
+        let place = Place::new(self.layout.place(self.phases.past())?, from, to);
         self.text.clear();
         match way {
             Some(way) => {
@@ -86,41 +124,6 @@ impl Chart {
                 Ok(Shapes::new(place, mark, note_label(place)))
             }
         }
-    }
-}
-
-impl Teller for Chart {
-    ghost use Rattle.hv_draw.specs.Sequence.{charts};
-
-    ghost tells = { charts };
-
-    fn tell<W: Write>(
-        &mut self,
-        kept: &Kept<Global>,
-        number: u64,
-        by: Caller,
-        what: &Action<Global>,
-        reply: &Reply,
-        effect: &Effect,
-        out: &mut W,
-    ) -> io::Result<()> {
-        if !has_row(what, effect) {
-            return Ok(());
-        }
-        let tree = kept.machine().tree();
-        self.words.clear();
-        push_event(&mut self.words, tree, by, what, reply);
-        let shapes = self.draw(tree, by, what, reply, effect)?;
-        put_row(
-            out,
-            number,
-            by,
-            reply,
-            effect,
-            &self.words,
-            shapes,
-            &self.text,
-        )
     }
 }
 

@@ -4,8 +4,9 @@ ghost use Rattle.std.specs.Io.KnownBytes.{Appends, Keeps};
 ghost use Rattle.hv_history.specs.Kept.{IsRun};
 ghost use Rattle.hv_policy.specs.BootFault.{boot_fault};
 ghost use Rattle.hv_run.specs.Failure.{CanRun, exit_of};
+ghost use Rattle.hv_run.specs.Written.{HasPart};
 ghost use Rattle.hv_script.specs.Reading.{said};
-ghost use Rattle.hv_draw.specs.Drawn.{HasDrawn, HasDrawnOf, HasGraph, IsGraph};
+ghost use Rattle.hv_draw.specs.Drawn.{HasDrawn, HasDrawnOf, HasDrawnPart, HasGraph, IsGraph};
 
 use crate::graph::{push_blocks, push_end, push_head};
 use crate::links::push_links;
@@ -16,6 +17,7 @@ use hv_explain::explain_lines;
 use hv_history::Kept;
 use hv_run::{Exit, Failure, tell};
 use hv_script::{Script, parse};
+use hv_text::put_bytes;
 use std::alloc::{AllocError, Global};
 use std::io::Write;
 
@@ -24,7 +26,7 @@ use std::io::Write;
 ///
 /// If not everything runs, the reason goes to `err`, in one line. After a fault of the script or a refused
 /// boot, nothing is written to `out`. If the host refuses an event, no later line is run, and the graph shows
-/// the state so far.
+/// the state so far. If the graph can't be written, `out` has a first part of it.
 pub fn draw_text<W: Write, E: Write>(
     alloc: Global,
     script: &[u8],
@@ -33,6 +35,7 @@ pub fn draw_text<W: Write, E: Write>(
     err: &mut E,
 ) -> Exit
     ensures drawn { result ≡ Exit.Done → HasDrawnOf script.now at (W.contents out.old) (W.contents out.new) }
+    ensures part { HasDrawnPart (W.contents out.old) (W.contents out.new) }
     ensures silent { result ≡ Exit.Script → out.new ≡ out.old }
     ensures faulty { result ≡ Exit.Script → CanRun script.now → ⊥ }
     ensures no_usage { result ≢ Exit.Usage }
@@ -52,6 +55,7 @@ fn draw_or_tell<W: Write, E: Write>(
     err: &mut E,
 ) -> Exit
     ensures drawn { result ≡ Exit.Done → HasDrawn (said script) at (W.contents out.old) (W.contents out.new) }
+    ensures part { HasDrawnPart (W.contents out.old) (W.contents out.new) }
     ensures silent { result ≡ Exit.Script → out.new ≡ out.old }
     ensures faulty { result ≡ Exit.Script → boot_fault script.config ≡ None → ⊥ }
     ensures no_usage { result ≢ Exit.Usage }
@@ -70,6 +74,7 @@ fn draw_script<W: Write>(
     out: &mut W,
 ) -> Result<(), Failure>
     ensures drawn { OnOk result (HasDrawn (said script) at (W.contents out.old) (W.contents out.new)) }
+    ensures part { HasDrawnPart (W.contents out.old) (W.contents out.new) }
     ensures silent { IfErr result (λ failure. exit_of failure ≡ Exit.Script → out.new ≡ out.old) }
     ensures faulty { IfErr result (λ failure. exit_of failure ≡ Exit.Script
         → boot_fault script.config ≡ None → ⊥) }
@@ -82,6 +87,7 @@ fn draw_script<W: Write>(
     let mut kept = Kept::boot(alloc, config, limit)?;
     let mut nothing: Vec<u8> = Vec::new(alloc);
     let ran = explain_lines(
+        alloc,
         &mut kept,
         lines.as_slice(),
         at,
@@ -110,6 +116,7 @@ fn ended(ran: Result<(), Failure>, drawn: Result<(), Failure>) -> Result<(), Fai
 // Writes the graph of the machine.
 fn write_graph<W: Write>(alloc: Global, kept: &Kept<Global>, out: &mut W) -> Result<(), Failure>
     ensures graph { OnOk result (HasGraph kept.now (W.contents out.old) (W.contents out.new)) }
+    ensures part { HasDrawnPart (W.contents out.old) (W.contents out.new) }
     ensures run { IsRun kept.now }
     ensures host { IfErr result (λ failure. exit_of failure ≡ Exit.Host) }
 {
@@ -121,12 +128,13 @@ fn write_graph<W: Write>(alloc: Global, kept: &Kept<Global>, out: &mut W) -> Res
     }
 }
 
-/// Writes a whole text.
+/// Writes a whole text. After a failed write, the writer has a first part of it.
 pub(crate) fn put<W: Write>(text: &[u8], out: &mut W) -> Result<(), Failure>
     ensures told { OnOk result (Appends (W.contents out.old) (W.contents out.new) text.now) }
+    ensures part { HasPart text.now (W.contents out.old) (W.contents out.new) }
     ensures host { IfErr result (λ failure. exit_of failure ≡ Exit.Host) }
 {
-    match out.write_all(text) {
+    match put_bytes(out, text) {
         Ok(()) => flush(out),
         Err(_) => Err(Failure::Write),
     }

@@ -8,6 +8,7 @@ ghost use Rattle.hv_draw.specs.Graph.{end_text, events_text, fill_text, head_tex
 ghost use Rattle.hv_draw.specs.Graph.{pages_text, rank_text, use_text};
 ghost use Rattle.hv_text.specs.Table.{life_text};
 
+use crate::folded::is_crowd;
 use crate::inside::push_inside;
 use crate::made::MadePort;
 use crate::text::{push, push_hex_64, push_number};
@@ -74,7 +75,7 @@ pub(crate) fn push_blocks(
 {
     for id in ids {
         let mut inside = Vec::new(*text.allocator());
-        push_inside(&mut inside, tree, *id, made)?;
+        push_inside(&mut inside, tree, *id, made, is_crowd(ids.len()))?;
         push_block(text, tree, *id, &inside)?;
     }
     Ok(())

@@ -1,7 +1,9 @@
 // The contents of a partition's cluster after the partition's node: its virtual processors and its ports.
+// `crate::folded` has those of which a graph shows too many.
 ghost use Rattle.std.specs.Prelude.{◌<◌};
 ghost use Rattle.hv_draw.specs.declared.inside.TheConstants.{SINTS};
 
+use crate::folded::{are_folded, push_folded_ports, push_folded_vps, push_vps_name};
 use crate::made::MadePort;
 use crate::text::{push, push_number};
 use hv_defs::{Aim, PortKind};
@@ -12,8 +14,8 @@ use hv_refine::Partitions;
 use hv_vp::Vp;
 use std::alloc::{AllocError, Global};
 
-// The most processors of a partition.
-const VPS: u32 = 64;
+/// The most processors of a partition.
+pub(crate) const VPS: u32 = 64;
 
 // The number of SINTs of a processor.
 pub const SINTS: u8 = 16;
@@ -21,16 +23,37 @@ pub const SINTS: u8 = 16;
 // The most numbers in a line of a label.
 const IN_LINE: usize = 16;
 
-/// Adds the nodes of the processors and the ports of the partition with this id, if it exists.
+/// Adds the nodes of the processors and the ports of the partition with this id, if it exists. In a crowd
+/// the graph has many partitions.
 pub(crate) fn push_inside(
     text: &mut Vec<u8>,
     tree: &Partitions<Global>,
     id: u64,
     made: &[MadePort],
+    crowd: bool,
 ) -> Result<(), AllocError> {
     let Some(partition) = tree.get(id) else {
         return Ok(());
     };
+    if are_folded(partition, crowd) {
+        push_folded_vps(text, id, partition, made)?;
+    } else {
+        push_vps(text, id, partition, made)?;
+    }
+    if crowd {
+        push_folded_ports(text, id, partition)
+    } else {
+        push_ports(text, id, partition)
+    }
+}
+
+// Adds the nodes of a partition's processors.
+fn push_vps(
+    text: &mut Vec<u8>,
+    id: u64,
+    partition: &Partition<Global>,
+    made: &[MadePort],
+) -> Result<(), AllocError> {
     for index in 0..VPS {
         if let Some(vp) = partition.vp(index) {
             let by = Caller {
@@ -40,7 +63,7 @@ pub(crate) fn push_inside(
             push_vp(text, by, vp, made)?;
         }
     }
-    push_ports(text, id, partition)
+    Ok(())
 }
 
 // Adds the node of a processor, and the line from its partition to it.
@@ -54,16 +77,26 @@ fn push_vp(
     push_vp_name(text, by)?;
     push(text, b" [label=\"vp ")?;
     push_number(text, u64::from(by.vp))?;
-    for sint in 0..SINTS {
-        push_messages(text, sint, vp, kept_at(by.part, sint, vp, made))?;
-        push_flags(text, sint, &vp.flags(sint))?;
-    }
-    push_vectors(text, vp.pending())?;
+    push_state(text, by.part, vp, made)?;
     push(text, b"\"];\n    p")?;
     push_number(text, by.part)?;
     push(text, b" -> ")?;
     push_vp_name(text, by)?;
     push(text, b" [arrowhead=none];\n")
+}
+
+/// Adds a row for each SINT of a processor that keeps messages or has set flags, and for its pending vectors.
+pub(crate) fn push_state(
+    text: &mut Vec<u8>,
+    part: u64,
+    vp: &Vp<Global>,
+    made: &[MadePort],
+) -> Result<(), AllocError> {
+    for sint in 0..SINTS {
+        push_messages(text, sint, vp, kept_at(part, sint, vp, made))?;
+        push_flags(text, sint, &vp.flags(sint))?;
+    }
+    push_vectors(text, vp.pending())
 }
 
 fn push_vp_name(text: &mut Vec<u8>, by: Caller) -> Result<(), AllocError> {
@@ -157,8 +190,8 @@ fn push_set(
     }
 }
 
-// Adds what separates a number from those before it, of which there are so many.
-fn push_gap(text: &mut Vec<u8>, told: usize) -> Result<(), AllocError> {
+/// Adds what separates a number from those before it, of which there are so many.
+pub(crate) fn push_gap(text: &mut Vec<u8>, told: usize) -> Result<(), AllocError> {
     if told == 0 {
         return push(text, b" ");
     }
@@ -227,11 +260,10 @@ fn push_port(
     }
     push(text, b"\" style=rounded];\n")?;
     match port.vp {
-        Aim::One(vp) if partition.vp(vp).is_some() => push_aim(
-            text,
-            Caller { part: id, vp },
-            number,
-        ),
+        Aim::One(vp) if partition.vp(vp).is_some() => {
+            let at = Caller { part: id, vp };
+            push_aim(text, at, number, are_folded(partition, false))
+        }
         Aim::One(_) | Aim::Any => Ok(()),
     }
 }
@@ -244,11 +276,16 @@ pub(crate) fn push_port_name(text: &mut Vec<u8>, id: u64, number: u32) -> Result
     push_number(text, u64::from(number))
 }
 
-fn push_aim(text: &mut Vec<u8>, at: Caller, number: u32) -> Result<(), AllocError> {
+// Adds the edge from a port to a processor, or to the node for all of them.
+fn push_aim(text: &mut Vec<u8>, at: Caller, number: u32, folded: bool) -> Result<(), AllocError> {
     push(text, b"    ")?;
     push_port_name(text, at.part, number)?;
     push(text, b" -> ")?;
-    push_vp_name(text, at)?;
+    if folded {
+        push_vps_name(text, at.part)?;
+    } else {
+        push_vp_name(text, at)?;
+    }
     push(text, b" [style=dotted];\n")
 }
 

@@ -6,23 +6,29 @@
 //! is connected. `specs/Graph.antt` defines what the text promises: each partition has its node, with its
 //! life state, depth, mask and pages, and the title has the number of events.
 //!
-//! [`sequence_text`] runs the lines and writes a sequence chart in SVG. It has a lane for each virtual
-//! processor that acts or is reached, by partition, and a row for each event that matters, from top to
-//! bottom: `charts` of `specs/Sequence.antt` says which. An arrow leads from the sender of a message or a
-//! signal to the processor that it reached. Both forms are this project's own.
+//! [`sequence_text`] runs the lines, or takes the events of an audit, and writes a sequence chart in SVG. It
+//! has a lane for each virtual processor that acts or is reached, by partition, and a row for each event that
+//! matters, from top to bottom: `charts` of `specs/Sequence.antt` says which. A [`Choice`] leaves out some of
+//! them. An arrow leads from the sender of a message or a signal to the processor that it reached. Both forms
+//! are this project's own.
 #![tactic(auto)]
 
 mod arrows;
 mod calls;
 mod chart;
+mod choice;
+mod chosen;
 mod draw;
+mod folded;
 mod graph;
 mod head;
 mod inside;
 mod lanes;
+mod layout;
 mod links;
 mod made;
 mod notes;
+mod phases;
 mod put;
 mod rowed;
 mod sequence;
@@ -31,5 +37,6 @@ mod silent;
 mod text;
 mod ways;
 
+pub use choice::{Choice, Only};
 pub use draw::draw_text;
 pub use sequence::sequence_text;

@@ -1,10 +1,14 @@
-// The connections, each an edge from its partition to its port.
+// The connections, each an edge from its partition to its port. In a crowd of partitions they are one edge to
+// the ports of each other partition, with their number.
 
+use crate::folded::{is_crowd, push_ports_name};
 use crate::inside::push_port_name;
 use crate::text::{push, push_number};
 use hv_defs::PortKind;
+use hv_partition::Partition;
 use hv_ports::Conn;
 use hv_refine::Partitions;
+use indexmap::IndexMap;
 use std::alloc::{AllocError, Global};
 
 /// Adds the edges of all connections of the partitions with these ids.
@@ -15,14 +19,103 @@ pub(crate) fn push_links(
 ) -> Result<(), AllocError> {
     for id in ids {
         if let Some(partition) = tree.get(*id) {
-            for place in 0..partition.conn_count() {
-                if let Some((number, conn)) = partition.conn_at(place) {
-                    push_link(text, tree, *id, number, conn)?;
-                }
+            if is_crowd(ids.len()) {
+                push_folded(text, tree, *id, partition)?;
+            } else {
+                push_own(text, tree, *id, partition)?;
             }
         }
     }
     Ok(())
+}
+
+// Adds the edge of each connection of a partition.
+fn push_own(
+    text: &mut Vec<u8>,
+    tree: &Partitions<Global>,
+    id: u64,
+    partition: &Partition<Global>,
+) -> Result<(), AllocError> {
+    for place in 0..partition.conn_count() {
+        if let Some((number, conn)) = partition.conn_at(place) {
+            push_link(text, tree, id, number, conn)?;
+        }
+    }
+    Ok(())
+}
+
+// Adds an edge to the ports of each partition to which a partition is connected. One more leads to those that
+// are gone.
+fn push_folded(
+    text: &mut Vec<u8>,
+    tree: &Partitions<Global>,
+    id: u64,
+    partition: &Partition<Global>,
+) -> Result<(), AllocError> {
+    let alloc = *text.allocator();
+    let mut counts: IndexMap<u64, u64> = IndexMap::new(alloc);
+    let mut gone = 0u64;
+    for place in 0..partition.conn_count() {
+        if let Some((_, conn)) = partition.conn_at(place) {
+            if leads_to_port(tree, conn) {
+                count(&mut counts, conn.part)?;
+            } else {
+                gone = gone.saturating_add(1);
+            }
+        }
+    }
+    push_counts(text, id, &counts)?;
+    push_all_gone(text, id, gone)
+}
+
+// Counts one more connection to a partition.
+fn count(counts: &mut IndexMap<u64, u64>, to: u64) -> Result<(), AllocError> {
+    let before = counts.get(&to).copied().unwrap_or(0);
+    match counts.insert(to, before.saturating_add(1)) {
+        Ok(_) => Ok(()),
+        Err(_) => Err(AllocError),
+    }
+}
+
+// Adds the edges from a partition to the ports of others, each with the number of connections.
+fn push_counts(text: &mut Vec<u8>, id: u64, counts: &IndexMap<u64, u64>) -> Result<(), AllocError> {
+    for at in 0..counts.len() {
+        if let Some((to, number)) = counts.get_index(at) {
+            push(text, b"  p")?;
+            push_number(text, id)?;
+            push(text, b" -> ")?;
+            push_ports_name(text, *to)?;
+            push_connections(text, *number)?;
+        }
+    }
+    Ok(())
+}
+
+// Adds the style of an edge for so many connections. Of one there is no label.
+fn push_connections(text: &mut Vec<u8>, number: u64) -> Result<(), AllocError> {
+    if number > 1 {
+        push(text, b" [label=\"")?;
+        push_number(text, number)?;
+        return push(text, b" connections\" style=dashed];\n");
+    }
+    push(text, b" [style=dashed];\n")
+}
+
+// Adds a node for the ports that are gone, and the edge of so many connections to it.
+fn push_all_gone(text: &mut Vec<u8>, id: u64, number: u64) -> Result<(), AllocError> {
+    if number == 0 {
+        return Ok(());
+    }
+    push(text, b"  g")?;
+    push_number(text, id)?;
+    push(
+        text,
+        b" [label=\"ports that are gone\" shape=plaintext];\n  p",
+    )?;
+    push_number(text, id)?;
+    push(text, b" -> g")?;
+    push_number(text, id)?;
+    push_connections(text, number)
 }
 
 // Adds an edge and, if the port is gone, a node that says so.

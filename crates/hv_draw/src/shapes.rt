@@ -13,11 +13,6 @@ const FIRST: u64 = 80;
 
 const LANE: u64 = 240;
 
-// The y of the first row, and the distance between rows.
-const TOP: u64 = 80;
-
-const ROW: u64 = 28;
-
 /// The place of a row: the height of its middle, and the lanes at its ends. Without an arrow they are one.
 #[derive(Clone, Copy)]
 pub(crate) struct Place {
@@ -27,10 +22,10 @@ pub(crate) struct Place {
 }
 
 impl Place {
-    /// The place of a row between these lanes. Rows and lanes count from 0.
-    pub(crate) fn new(row: u64, from: usize, to: usize) -> Place {
+    /// The place of a row at this height, between these lanes, which count from 0.
+    pub(crate) fn new(y: u64, from: usize, to: usize) -> Place {
         Place {
-            y: y_of(row),
+            y,
             from: x_of(from as u64),
             to: x_of(to as u64),
         }
@@ -90,11 +85,6 @@ impl Shapes {
 /// Returns the x of a lane.
 pub(crate) fn x_of(lane: u64) -> u64 {
     lane.saturating_mul(LANE).saturating_add(FIRST)
-}
-
-/// Returns the y of a row.
-pub(crate) fn y_of(row: u64) -> u64 {
-    row.saturating_mul(ROW).saturating_add(TOP)
 }
 
 /// Writes the shapes of the row of the event with this number, with this text.

@@ -47,14 +47,19 @@ report_line = with_names (with_rule (with_rule (new_app (codes "report")) script
 abbrev pub serve_line : App
 serve_line = with_rule (new_app (codes "serve")) (flag_rule (codes "json"))
 
--- the option `--at N`
-abbrev pub at_rule : Rule
-at_rule = record (new_rule (codes "at")) { long = Some (codes "at"); value_names = 1 }
+-- an option `--name VALUE`
+abbrev pub value_rule : Text → Rule
+value_rule name = record (new_rule name) { long = Some name; value_names = 1 }
 
--- `draw SCRIPT --at N --sequence --names`
+-- `draw SCRIPT AUDIT --sequence`
+abbrev pub drawing_line : App
+drawing_line = with_rule (with_rule (with_rule (new_app (codes "draw")) script_rule) (audit_rule false))
+    (flag_rule (codes "sequence"))
+
+-- and with `--to N --from N --only ID --names`
 abbrev pub draw_line : App
-draw_line = with_names (with_rule (with_rule (with_rule (new_app (codes "draw")) script_rule) at_rule)
-    (flag_rule (codes "sequence")))
+draw_line = with_names (with_rule (with_rule (with_rule drawing_line (value_rule (codes "to")))
+    (value_rule (codes "from"))) (value_rule (codes "only")))
 
 -- the argument FILE, which is required
 abbrev pub file_rule : Rule
@@ -86,7 +91,8 @@ pub data Asked : Type 0 where
   Trace : (script : Text) (audit : Option Text) (perfetto names : Bool) → Asked
   Report : (script : Text) (audit : Option Text) (names : Bool) → Asked
   Serve : (json : Bool) → Asked
-  Draw : (script : Text) (at : Option Text) (sequence names : Bool) → Asked
+  Draw : (script : Text) (audit : Option Text) (sequence : Bool) (to from only : Option Text) (names : Bool)
+      → Asked
   Asm : (file : Text) → Asked
 
 -- the request of a command
@@ -100,8 +106,9 @@ asked_for (command.Trace script audit perfetto names) = Trace script.now
     (option_map (λ name. name.now) audit) perfetto names
 asked_for (command.Report script audit names) = Report script.now (option_map (λ name. name.now) audit) names
 asked_for (command.Serve json) = Serve json
-asked_for (command.Draw script at sequence names) = Draw script.now
-    (option_map (λ number. number.now) at) sequence names
+asked_for (command.Draw script audit sequence to from only names) = Draw script.now
+    (option_map (λ name. name.now) audit) sequence (option_map (λ number. number.now) to)
+    (option_map (λ number. number.now) from) (option_map (λ word. word.now) only) names
 asked_for (command.Asm file) = Asm file.now
 
 -- what the arguments of each command ask for. A flag that was given has the value `true`
@@ -136,8 +143,9 @@ abbrev pub serve_by : List Row → Asked
 serve_by rows = Serve (is_given (codes "json") rows)
 
 abbrev pub draw_by : List Row → Option Asked
-draw_by rows = option_map (λ script. Draw script (first_of (codes "at") rows)
-    (is_given (codes "sequence") rows) (is_given (codes "names") rows)) (script_in rows)
+draw_by rows = option_map (λ script. Draw script (audit_in rows) (is_given (codes "sequence") rows)
+    (first_of (codes "to") rows) (first_of (codes "from") rows) (first_of (codes "only") rows)
+    (is_given (codes "names") rows)) (script_in rows)
 
 abbrev pub asm_by : List Row → Option Asked
 asm_by rows = option_map (λ file. Asm file) (first_of (codes "FILE") rows)

@@ -4,12 +4,12 @@ ghost use Rattle.clap.specs.Words.{app_of, first_of, found_of, rows_of, rule_of}
 ghost use Rattle.clap.specs.declared.builder.command.Command.TheViews.{out-Command as fields_of};
 ghost use Rattle.hv_options.specs.Options.{Explains, flag_rule};
 ghost use Rattle.hv_options.specs.Commands.{Asked, asked_by, asked_by_matches, asked_by_rows, asked_for};
-ghost use Rattle.hv_options.specs.Commands.{asm_by, asm_line, at_rule, audit_rule, check_by, check_line};
-ghost use Rattle.hv_options.specs.Commands.{comparing_line};
+ghost use Rattle.hv_options.specs.Commands.{asm_by, asm_line, audit_rule, check_by, check_line};
+ghost use Rattle.hv_options.specs.Commands.{comparing_line, drawing_line};
 ghost use Rattle.hv_options.specs.Commands.{draw_by, draw_line, explain_by, explain_line, file_rule};
 ghost use Rattle.hv_options.specs.Commands.{named_run_line, program_faults, program_line, report_by};
 ghost use Rattle.hv_options.specs.Commands.{report_line, run_by, serve_by, serve_line, trace_by, trace_line};
-ghost use Rattle.hv_options.specs.Commands.{with_audits, with_others};
+ghost use Rattle.hv_options.specs.Commands.{value_rule, with_audits, with_others};
 
 use crate::command_line::{VERSION, flag, is_given, refusal, run_command, script_argument};
 use crate::usage::{Command, Options, Usage};
@@ -170,16 +170,31 @@ fn draw_command<'a>(alloc: Global) -> Result<Line<'a>, AllocError>
     ensures shape { IfOk result (λ c. app_of c ≡ draw_line) }
     ensures local { IfOk result (λ c. (fields_of c).has_globals ≡ false) }
 {
+    let draw = drawing_command(alloc)?;
+    let draw = draw.arg(to_option(alloc))?;
+    let draw = draw.arg(from_option(alloc))?;
+    let draw = draw.arg(only_option(alloc))?;
+    draw.arg(names_flag(alloc))
+}
+
+// The subcommand `draw` with what it draws.
+fn drawing_command<'a>(alloc: Global) -> Result<Line<'a>, AllocError>
+    ensures shape { IfOk result (λ c. app_of c ≡ drawing_line) }
+    ensures local { IfOk result (λ c. (fields_of c).has_globals ≡ false) }
+{
     Line::new(alloc, "draw")
         .about("Runs a script, and prints the state at its end as a graph for Graphviz")
         .arg(script_argument(alloc))?
-        .arg(at_option(alloc))?
+        .arg(audit_argument(
+            alloc,
+            false,
+            "An audit whose order the events take, or - for standard input",
+        ))?
         .arg(flag(
             alloc,
             "sequence",
             "Print the messages and signals as a sequence chart in SVG",
-        ))?
-        .arg(names_flag(alloc))
+        ))
 }
 
 fn asm_command<'a>(alloc: Global) -> Result<Line<'a>, AllocError>
@@ -213,15 +228,41 @@ fn file_argument<'a>(alloc: Global) -> Arg<'a>
         .help("The text's file, or - for standard input")
 }
 
-// The option `--at N`. Its value may be any text.
-fn at_option<'a>(alloc: Global) -> Arg<'a>
-    ensures rule { rule_of result ≡ at_rule }
+fn to_option<'a>(alloc: Global) -> Arg<'a>
+    ensures rule { rule_of result ≡ value_rule (codes "to") }
     ensures local { result.global ≡ false }
 {
-    Arg::new(alloc, "at")
-        .long("at")
-        .value_name("N")
-        .help("Print the state after N events")
+    option(alloc, "to", "N", "Stop after N events")
+}
+
+fn from_option<'a>(alloc: Global) -> Arg<'a>
+    ensures rule { rule_of result ≡ value_rule (codes "from") }
+    ensures local { result.global ≡ false }
+{
+    option(alloc, "from", "N", "Begin the chart at event N")
+}
+
+fn only_option<'a>(alloc: Global) -> Arg<'a>
+    ensures rule { rule_of result ≡ value_rule (codes "only") }
+    ensures local { result.global ≡ false }
+{
+    option(
+        alloc,
+        "only",
+        "ID",
+        "Chart only what partition ID, or its processor ID.VP, does or gets",
+    )
+}
+
+// An option `--name VALUE`. Its value may be any text.
+fn option<'a>(alloc: Global, name: &'a str, value: &'a str, help: &'a str) -> Arg<'a>
+    ensures rule { rule_of result ≡ value_rule name.entry.now }
+    ensures local { result.global ≡ false }
+{
+    Arg::new(alloc, name)
+        .long(name)
+        .value_name(value)
+        .help(help)
 }
 
 fn audit_argument<'a>(alloc: Global, required: bool, help: &'a str) -> Arg<'a>
@@ -353,13 +394,19 @@ fn read_draw<'a>(own: &ArgMatches<'a>) -> Option<Command<'a>>
     ensures { option_map asked_for result ≡ draw_by (rows_of (found_of own.now)) }
 {
     let script = value_in(own, "SCRIPT")?;
-    let at = value_in(own, "at");
+    let audit = value_in(own, "AUDIT");
     let sequence = is_given(own, "sequence");
+    let to = value_in(own, "to");
+    let from = value_in(own, "from");
+    let only = value_in(own, "only");
     let names = is_given(own, "names");
     Some(Command::Draw {
         script,
-        at,
+        audit,
         sequence,
+        to,
+        from,
+        only,
         names,
     })
 }

@@ -68,13 +68,19 @@ pub enum Command<'a> {
         /// Whether each answer is a line of JSON.
         json: bool,
     },
-    /// `draw SCRIPT [--at N] [--sequence] [--names]`: prints a state of a script as a graph.
+    /// `draw SCRIPT [AUDIT] [--sequence] [--to N] [--from N] [--only ID] [--names]`: prints a state of a
+    /// script as a graph, or its run as a chart, in the order of an audit if one is named.
     Draw {
         script: &'a str,
-        /// The number of events before that state, as it was written. Without one, it is the last state.
-        at: Option<&'a str>,
+        audit: Option<&'a str>,
         /// Whether the messages and signals are drawn in place of a state.
         sequence: bool,
+        /// The number of events after which it ends, as it was written. Without one, it is the whole run.
+        to: Option<&'a str>,
+        /// The number of the first event of a chart, as it was written.
+        from: Option<&'a str>,
+        /// The partition or the processor that a chart shows alone, as it was written.
+        only: Option<&'a str>,
         names: bool,
     },
     /// `asm FILE`: prints the script that a text with names means.

@@ -14,7 +14,7 @@ mod files;
 use crate::files::{Source, read_both, read_source, read_text};
 use hv_asm::{asm_text, assemble};
 use hv_check::{check_json, check_text};
-use hv_draw::{draw_text, sequence_text};
+use hv_draw::{Choice, Only, draw_text, sequence_text};
 use hv_explain::{explain_text, follow_text};
 use hv_options::{Command, Options, Usage, command};
 use hv_run::{Exit, Failure, run_text, tell, tell_usage};
@@ -31,14 +31,17 @@ use std::thread::Threads;
 // The errors of words that don't go together.
 const BOTH: &str = "error: SCRIPT and AUDIT can't both be standard input";
 
-const NO_NUMBER: &str = "error: the N of --at isn't a number from 0 to 18446744073709551615";
+const NO_NUMBER: &str =
+    "error: the N of --to or --from isn't a number from 0 to 18446744073709551615";
+
+const NO_VP: &str = "error: the ID of --only is neither a partition's ID nor a processor's ID.VP";
 
 const NO_ORDER: &str = "error: --perfetto takes no AUDIT";
 
-const NO_STATE: &str = "error: --sequence takes no --at";
+const NO_CHART: &str = "error: AUDIT, --from and --only need --sequence";
 
 // How `draw` is used.
-const DRAW: &str = "draw [OPTIONS] <SCRIPT>";
+const DRAW: &str = "draw [OPTIONS] <SCRIPT> [AUDIT]";
 
 // The size of the output buffer in bytes, 16 times that of a block of an audit.
 const GATHERED: usize = 32_768;
@@ -167,15 +170,20 @@ fn perform<R: Files + Input + AllocGlobal + Threads + Wait + Sync, W: Write, E: 
         }
         Command::Draw {
             script,
-            at,
+            audit,
             sequence,
+            to,
+            from,
+            only,
             names,
         } => {
             let source = Source::new(script, *names);
-            match (at, sequence) {
-                (Some(_), true) => refuse(NO_STATE, DRAW, err),
-                (at, false) => draw_named(rt, source, *at, out, err),
-                (None, true) => sequence_named(rt, source, out, err),
+            if *sequence {
+                chart_named(rt, source, *audit, (*from, *to, *only), out, err)
+            } else if audit.is_some() || from.is_some() || only.is_some() {
+                refuse(NO_CHART, DRAW, err)
+            } else {
+                draw_named(rt, source, *to, out, err)
             }
         }
         Command::Asm { file } => asm_named(rt, file, out, err),
@@ -350,16 +358,60 @@ fn perfetto_named<R: Files + Input + AllocGlobal, W: Write, E: Write>(
     }
 }
 
-// Draws the messages and signals of a script.
-fn sequence_named<R: Files + Input + AllocGlobal, W: Write, E: Write>(
+// Draws the messages and signals of a script, or of an audit of it: those that the words choose.
+fn chart_named<R: Files + Input + AllocGlobal, W: Write, E: Write>(
     rt: &R,
     source: Source<'_>,
+    audit: Option<&str>,
+    words: (Option<&str>, Option<&str>, Option<&str>),
     out: &mut W,
     err: &mut E,
 ) -> Exit {
-    match read_source(rt, source, err) {
-        Ok(script) => {
-            let exit = sequence_text(rt.alloc(), &script, out, err);
+    match choice_in(words) {
+        Ok(choice) => sequence_named(rt, source, audit, choice, out, err),
+        Err(why) => refuse(why, DRAW, err),
+    }
+}
+
+// Returns the choice of `--from`, `--to` and `--only`, or what is wrong with it.
+fn choice_in(
+    (from, to, only): (Option<&str>, Option<&str>, Option<&str>),
+) -> Result<Choice, &'static str> {
+    Ok(Choice {
+        from: number_or(from, 0)?,
+        to: number_or(to, u64::MAX)?,
+        only: match only {
+            Some(word) => Some(Only::read(word).ok_or(NO_VP)?),
+            None => None,
+        },
+    })
+}
+
+// Returns the number that a word is, or this one if there is no word.
+fn number_or(word: Option<&str>, none: u64) -> Result<u64, &'static str> {
+    match word {
+        Some(word) => number_in(word).ok_or(NO_NUMBER),
+        None => Ok(none),
+    }
+}
+
+// Draws the chosen messages and signals of a script, or of an audit of it.
+fn sequence_named<R: Files + Input + AllocGlobal, W: Write, E: Write>(
+    rt: &R,
+    source: Source<'_>,
+    audit: Option<&str>,
+    choice: Choice,
+    out: &mut W,
+    err: &mut E,
+) -> Exit {
+    match read_some(rt, source, audit, DRAW, err) {
+        Ok((script, audit)) => {
+            let exit = match audit {
+                Some(audit) => {
+                    sequence_text(rt.alloc(), &script, Some(&audit), choice, out, err)
+                }
+                None => sequence_text(rt.alloc(), &script, None, choice, out, err),
+            };
             with_hint(rt.alloc(), source, &script, exit, err)
         }
         Err(exit) => exit,
@@ -383,11 +435,11 @@ fn asm_named<R: Files + Input + AllocGlobal, W: Write, E: Write>(
 fn draw_named<R: Files + Input + AllocGlobal, W: Write, E: Write>(
     rt: &R,
     source: Source<'_>,
-    at: Option<&str>,
+    to: Option<&str>,
     out: &mut W,
     err: &mut E,
 ) -> Exit {
-    let at = match at {
+    let to = match to {
         Some(word) => match number_in(word) {
             Some(number) => Some(number),
             None => return refuse(NO_NUMBER, DRAW, err),
@@ -396,7 +448,7 @@ fn draw_named<R: Files + Input + AllocGlobal, W: Write, E: Write>(
     };
     match read_source(rt, source, err) {
         Ok(script) => {
-            let exit = draw_text(rt.alloc(), &script, at, out, err);
+            let exit = draw_text(rt.alloc(), &script, to, out, err);
             with_hint(rt.alloc(), source, &script, exit, err)
         }
         Err(exit) => exit,
