@@ -49,7 +49,7 @@ assert bench.done("1.0 call 0x10041 2 0 -")[0].endswith(" denied 000000000000000
 assert bench.done("2.0 interrupt")[0].endswith(" fault P3"), "it has no processor"
 assert bench.ask("explain")["explain"].startswith("7 2.0 take an interrupt: fault, P3: ")
 assert bench.ask("peek 1.0 rdmsr 0x40000092")["peek"] == "0000010000000000", "SINT 2 is masked"
-assert bench.ask("1.0 reset") == {"line": 10, "events": [], "fault": "unknown word"}
+assert bench.ask("1.0 reset") == {"line": 10, "events": [], "trace": [], "fault": "unknown word"}
 assert bench.ask("table")["table"].splitlines()[1].startswith("partition 2 parent 1 Active ")
 assert bench.end() == ({"end": True, "events": 7}, 0)
 print("passed")

@@ -14,7 +14,7 @@ import os
 import select
 import subprocess
 import time
-from dataclasses import dataclass
+from dataclasses import dataclass, field, replace
 from typing import Any, Dict, FrozenSet, List, Optional, Tuple, Union
 
 from ._convert import Data, bits_of, data
@@ -52,6 +52,20 @@ class Event:
     """The rule that refuses the event, such as `P12`; None if it was served."""
     line: str
     """The line, with its line feed."""
+    trace: Dict[str, Any] = field(default_factory=dict, compare=False)
+    """The object that `hvpm trace` prints of the event. docs/trace.schema.json has its members."""
+
+    @property
+    def reason(self) -> Optional[str]:
+        """Why the rule refuses the event, with the values that decided; None if it was served."""
+        reason: Optional[str] = self.trace.get("reason")
+        return reason
+
+    @property
+    def effect(self) -> Dict[str, Any]:
+        """What the event changed, and whose that is."""
+        effect: Dict[str, Any] = self.trace.get("effect", {"kind": "nothing"})
+        return effect
 
     @property
     def is_served(self) -> bool:
@@ -261,4 +275,5 @@ class Session:
 
 
 def _events(answer: Dict[str, Any]) -> List[Event]:
-    return [event_of(line + "\n") for line in answer["events"]]
+    lines = [event_of(line + "\n") for line in answer["events"]]
+    return [replace(event, trace=trace) for event, trace in zip(lines, answer["trace"])]

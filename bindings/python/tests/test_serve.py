@@ -3,7 +3,9 @@ import os
 import signal
 import subprocess
 import sys
+import tempfile
 import unittest
+from unittest import mock
 
 import hvpm
 from hvpm import serve
@@ -32,11 +34,44 @@ class Lines(unittest.TestCase):
         event = Event(9, ROOT, "clearflag 3 65535", FAULT, 0, b"", "P21", line)
         self.assertEqual((serve.event_of(line), event.value), (event, 0))
 
+    def test_a_value_is_the_whole_output(self):
+        line = "1 1.0 call 0000000000000044 ok 0000000000000000 44000000f7000000\n"
+        self.assertEqual(serve.event_of(line).value, 0xF700000044)
+        line = "1 1.0 call 0000000300000049 more 0fff00000000ffff -\n"
+        self.assertEqual(serve.event_of(line).result, 0x0FFF00000000FFFF)
+
     def test_no_library_is_needed(self):
         """`hvpm.serve` loads none."""
         folder = os.path.join(os.path.dirname(os.path.abspath(__file__)), "..")
         environment = {**os.environ, "LD_LIBRARY_PATH": "", "HVPM_LIB": "/nowhere", "PYTHONPATH": folder}
         subprocess.run([sys.executable, "-c", "import hvpm.serve"], env=environment, check=True)
+
+
+class Programs(unittest.TestCase):
+    """Programs that aren't hvpm."""
+
+    def session(self, script, **how):
+        with tempfile.TemporaryDirectory() as folder:
+            path = os.path.join(folder, "program")
+            with open(path, "w") as file:
+                file.write(f"#!/bin/sh\necho '{{}}'\n{script}\n")
+            os.chmod(path, 0o755)
+            return Session(path, **how)
+
+    def test_a_program_that_ends_with_a_fault_is_an_error(self):
+        session = self.session("""cat; echo '{"end": true, "events": 5}'; exit 3""")
+        self.assertRaisesRegex(EOFError, "status 3$", session.close)
+        self.assertEqual(self.session("""cat; echo '{"end": true, "events": 5}'""").close(), 5)
+
+    def test_a_program_that_does_not_end_is_killed(self):
+        session = self.session("exec sleep 60", timeout=0.2)
+        self.assertEqual(session._end(), -signal.SIGKILL)
+
+    def test_there_are_defaults(self):
+        with self.session("cat") as session, mock.patch.object(session, "_ask") as ask:
+            session.boot(mask=5, pages=4, pool=3, vps=2)
+            ask.assert_called_once_with("boot 4 3 2 0x5 4294967295")
+            self.assertEqual(session._timeout, 60)
 
 
 @unittest.skipUnless(PROGRAM, "HVPM names no program")
@@ -96,6 +131,7 @@ class Sessions(unittest.TestCase):
         self.assertEqual(session.peek_slot(ROOT, 2)[16:22], b"hello\0")
         (event,) = session.call(ROOT, "HvPostMessage", **message, PayloadSize=241, Payload=b"")
         self.assertEqual((event.rule, event.output), ("P7", b""))
+        self.assertEqual(event.effect, {"kind": "nothing"})
         for name, elements, given, error in (
             ("HvPostMessage", (), {**message, "Payload": "text"}, "bytes are wanted, and not str: encode it"),
             ("HvPostMessage", (), {**message, "Payload": 5}, "bytes are wanted, and not int"),
@@ -115,6 +151,17 @@ class Sessions(unittest.TestCase):
         with self.assertRaisesRegex(OverflowError, "at most 240 bytes"):
             session.call(ROOT, "HvPostMessage", **message, Payload=bytes(241))
 
+    def test_events_have_reason_and_effect(self):
+        session = self.boot()
+        (event,) = session.hypercall(ROOT, 0x10041, 7)
+        self.assertEqual((event.rule, event.trace["rule"], event.effect), ("P9", "P9", {"kind": "nothing"}))
+        self.assertIn(f": denied HV_STATUS_INVALID_PARTITION_ID, P9: {event.reason}", session.explain())
+        events = session.hypercall(ROOT, 2 << 32 | 0x49, input=b"\1")
+        self.assertEqual([event.reason for event in events], [None, None])
+        pages = [{"kind": "page", "page": page, "owner": 1, "pooled": False} for page in (0, 1)]
+        self.assertEqual([event.effect for event in events], pages)
+        self.assertEqual([event.trace["fields"]["element"] for event in events], [0, 1])
+
     def test_looks_are_no_events(self):
         session = self.boot()
         self.assertIsNone(session.explain())
@@ -124,10 +171,18 @@ class Sessions(unittest.TestCase):
         nowhere = (9, 0)
         self.assertEqual([session.peek_slot(ROOT, 16), session.peek_msr(ROOT, 1)], [None, None])
         self.assertEqual([session.peek_flags(nowhere, 0), session.peek_pending(nowhere)], [None, None])
+        flags = {"PortType": 2, "TargetSint": 15, "TargetVp": 0, "BaseFlagNumber": 2047, "FlagCount": 1}
+        session.call(ROOT, "HvCreatePort", PortPartition=1, PortId=9, ConnectionPartition=1, **flags)
+        link = {"PortPartition": 1, "PortId": 9, "PortType": 2}
+        session.call(ROOT, "HvConnectPort", ConnectionPartition=1, ConnectionId=4, **link)
+        for msr, value in ((hvpm.Msr.SCONTROL, 1), (hvpm.Msr.SIEFP, 1), (hvpm.Msr.SINT15, 0xFF)):
+            session.write_msr(ROOT, msr, value)
+        session.call(ROOT, "HvSignalEvent", ConnectionId=4, FlagNumber=0)
+        self.assertEqual((session.peek_flags(ROOT, 15), session.peek_pending(ROOT)), ({2047}, {255}))
         session.call(ROOT, "HvCreateVp", PartitionId=7, VpIndex=0)
-        told = "1 1.0 HvCreateVp partition 7, vp 0: denied HV_STATUS_INVALID_PARTITION_ID, P9: "
+        told = "7 1.0 HvCreateVp partition 7, vp 0: denied HV_STATUS_INVALID_PARTITION_ID, P9: "
         self.assertTrue(session.explain().startswith(told), session.explain())
-        self.assertEqual(session.close(), 1)
+        self.assertEqual(session.close(), 7)
 
     def test_lines_without_an_event_have_none(self):
         session = self.boot()

@@ -28,7 +28,6 @@ use Rattle.hv_serve.specs.Law.{IsServed, done_in, is_done, script_in, told_in}
 use Rattle.hv_serve.specs.Meant.{Asks, Explains, Meant, Peeks, Reads, meaning, meant, request_by, request_line}
 use Rattle.hv_serve.specs.Peek.{peek_of}
 use Rattle.hv_serve.specs.Session.{AreTurns, Becomes, HasCome, HasDone, IsBooted, IsTurn, Served, Turn, answer_of, answers_in, end_text, history_of, kept_of, lines_in, new_text, read_of}
-use Rattle.hv_serve.specs.declared.form.Form.{Form}
 use Rattle.hv_serve.specs.declared.form.Form.TheVariants.{Text}
 use Rattle.hv_serve.specs.declared.outcome.Outcome.{Outcome}
 use Rattle.hv_serve.specs.declared.outcome.Outcome.TheVariants.{Done, Table, Peek, Explain, Fault, Boot, Host}
@@ -72,9 +71,9 @@ by_length : (t : Bool) (request : Option Request) (before after : Option (SoFar 
 by_length true request before after line same = absurd (cc)
 by_length false request before after line same = by_request request before after line same
 
-pub reads_line : (form : Form) (before after : Option (SoFar Global)) (line : List ℕ) → meant form before line ≡ Ok (Reads after) → read_line before line ≡ Ok after
+pub reads_line : (before after : Option (SoFar Global)) (line : List ℕ) → meant before line ≡ Ok (Reads after) → read_line before line ≡ Ok after
 unfolding meant
-reads_line form before after line same = by_length (nat_lt MOST_BYTES (length line)) (request_by form line) before after line same
+reads_line before after line same = by_length (nat_lt MOST_BYTES (length line)) (request_by line) before after line same
 
 -- the machine is a run, if there is one
 abbrev pub IsRunOf : Option Served → Type 0
@@ -201,19 +200,19 @@ shape t turn rest same = ap (λ (b : Bool). if b then turn ∷ rest else rest) s
 
 -- the answer of a line that is done is the audit's lines of what it adds
 answer_is : (number : ℕ) (before mid : Option Served) (turn : Turn) (own : List (Entry Global)) → turn.answer ≡ answer_of Text number (length (history_of (kept_of before))) turn.outcome
-    (kept_of mid) turn.words
+    (kept_of mid) turn.objects turn.words
     →
     turn.outcome ≡ Done
     → history_of (kept_of mid) ≡ history_of (kept_of before) ++ own → turn.answer ≡ entries_text (length (history_of (kept_of before)) + 1) own
 answer_is number before mid turn own answer done grown =
     let k = length (history_of (kept_of before)) in
-    answer ∙ ap (λ (o : Outcome). answer_of Text number k o (kept_of mid) turn.words) done ∙ append-nil (new_text k (kept_of mid))
+    answer ∙ ap (λ (o : Outcome). answer_of Text number k o (kept_of mid) turn.objects turn.words) done ∙ append-nil (new_text k (kept_of mid))
     ∙ ap (entries_text (k + 1)) (ap (drop k) grown ∙ drop_front (history_of (kept_of before)) own)
 
 comes-then : (number : ℕ) (before mid after : Option Served) (turn : Turn) (rest : List Turn) → IsTurn Text number before turn mid → turn.outcome ≡ Done → Comes mid rest after
     → Comes before (turn ∷ rest) after
 comes-then number before mid after turn rest is done more =
-    let becomes : Becomes before (meant Text (read_of before) turn.line) Done mid = subst (λ (o : Outcome). Becomes before (meant Text (read_of before) turn.line) o mid) done
+    let becomes : Becomes before (meant (read_of before) turn.line) Done mid = subst (λ (o : Outcome). Becomes before (meant (read_of before) turn.line) o mid) done
     is.becomes in
     let grown = grown_by before mid becomes.1 in
     let first : turn.answer ≡ entries_text (length (history_of (kept_of before)) + 1) grown.0 = answer_is number before mid turn grown.0 is.answer done grown.1 in
@@ -221,7 +220,7 @@ comes-then number before mid after turn rest is done more =
     in
     record {
       read = λ n. ap (λ (r : Result (Option (SoFar Global)) FaultKind). at_line n r >>= (λ after. read_lines (n + 1) after (lines_in rest)))
-          (reads_line Text (read_of before) (read_of mid) turn.line becomes.0)
+          (reads_line (read_of before) (read_of mid) turn.line becomes.0)
           ∙ more.read (n + 1);
       reached = come-then before mid after becomes.1 more.reached;
       own = grown.0 ++ more.own;
@@ -244,12 +243,12 @@ comes number before (turn ∷ turns) after run some all =
     choose : (t : Bool) → is_done turn.outcome ≡ t → (IsRunOf some.0 → Comes some.0 (done_in turns) after) → Comes before (done_in (turn ∷ turns)) after
     choose true same later =
         let done = is_that turn.outcome same in
-        let becomes : Becomes before (meant Text (read_of before) turn.line) Done some.0 = subst (λ (o : Outcome). Becomes before (meant Text (read_of before) turn.line) o some.0)
+        let becomes : Becomes before (meant (read_of before) turn.line) Done some.0 = subst (λ (o : Outcome). Becomes before (meant (read_of before) turn.line) o some.0)
         done some.1.becomes in
         subst (λ (d : List Turn). Comes before d after) (sym (shape true turn (done_in turns) same))
         (comes-then number before some.0 after turn (done_in turns) some.1 done (later (run_of_come before some.0 becomes.1)))
     choose false same later =
-        let still : some.0 ≡ before = unchanged before some.0 (meant Text (read_of before) turn.line) turn.outcome some.1.becomes (All-head WasServed turn turns all) same in
+        let still : some.0 ≡ before = unchanged before some.0 (meant (read_of before) turn.line) turn.outcome some.1.becomes (All-head WasServed turn turns all) same in
         subst (λ (d : List Turn). Comes before d after) (sym (shape false turn (done_in turns) same))
         (subst (λ (b : Option Served). Comes b (done_in turns) after) still (later (subst IsRunOf (sym still) run)))
 

@@ -11,5 +11,6 @@ pub mod ShownLines
 pub mod Strings
 pub mod TakenLines
 pub mod Texts
+pub mod Tracing
 pub mod SessionSteps
 pub mod Vectors

@@ -15,7 +15,6 @@ use Rattle.hv_script.specs.declared.script.TheConstants.{MOST_BYTES}
 use Rattle.hv_serve.proofs.Lines.{IsOne}
 use Rattle.hv_serve.specs.Bench.{reads, words_by, words_say}
 use Rattle.hv_serve.specs.Meant.{Reads, meaning, meant, request_by, request_of}
-use Rattle.hv_serve.specs.declared.form.Form.{Form}
 use Rattle.hv_serve.specs.declared.request.Request.{Request}
 
 chained : (r : Result (SoFar Global) FaultKind) → (r >>= (λ so_far. Ok (Some so_far))) >>= (λ after. Ok (Reads after)) ≡ reads r
@@ -23,13 +22,13 @@ chained (Ok so_far) = refl
 chained (Err kind) = refl
 
 -- where there are words, the first of them decides
-pub by_first : (form : Form) (before : Option (SoFar Global)) (words : List (List ℕ)) (request : Option Request) → (length words == 0) ≡ false → request_of form words ≡ request
-    → words_say form before words ≡ words_by request before words
-by_first form before words request some is =
-    ap (λ (t : Bool). cond t (Ok (Reads before)) (words_by (request_of form words) before words)) some ∙ ap (λ (r : Option Request). words_by r before words) is
+pub by_first : (before : Option (SoFar Global)) (words : List (List ℕ)) (request : Option Request) → (length words == 0) ≡ false → request_of words ≡ request
+    → words_say before words ≡ words_by request before words
+by_first before words request some is =
+    ap (λ (t : Bool). cond t (Ok (Reads before)) (words_by (request_of words) before words)) some ∙ ap (λ (r : Option Request). words_by r before words) is
 
-pub by_none : (form : Form) (before : Option (SoFar Global)) (words : List (List ℕ)) → (length words == 0) ≡ true → words_say form before words ≡ Ok (Reads before)
-by_none form before words none = ap (λ (t : Bool). cond t (Ok (Reads before)) (words_by (request_of form words) before words)) none
+pub by_none : (before : Option (SoFar Global)) (words : List (List ℕ)) → (length words == 0) ≡ true → words_say before words ≡ Ok (Reads before)
+by_none before words none = ap (λ (t : Bool). cond t (Ok (Reads before)) (words_by (request_of words) before words)) none
 
 -- a line that is read says what its words say
 by_request : (before : Option (SoFar Global)) (line : List ℕ) (request : Option Request) → read_line before line ≡ read_words before (words_of line) >>= (λ so_far. Ok (Some so_far))
@@ -39,17 +38,17 @@ by_request before line None read =
     ap (λ (r : Result (Option (SoFar Global)) FaultKind). r >>= (λ after. Ok (Reads after))) read ∙ chained (read_words before (words_of line))
 
 -- whether it is skipped, and whether its bytes are good
-by_tests : (form : Form) (before : Option (SoFar Global)) (line : List ℕ) (words : List (List ℕ)) (s g : Bool) → words_of line ≡ words → is_skipped words ≡ s
+by_tests : (before : Option (SoFar Global)) (line : List ℕ) (words : List (List ℕ)) (s g : Bool) → words_of line ≡ words → is_skipped words ≡ s
     → read_line before line ≡ cond s (Ok before) (cond g (read_words before words >>= (λ so_far. Ok (Some so_far))) (Err Byte))
-    → meaning (cond s None (cond g (request_of form words) None)) before line ≡ cond s (Ok []) (cond g (Ok words) (Err Byte)) >>= (λ words. words_say form before words)
-by_tests form before line words true g are is read = ap (λ (r : Result (Option (SoFar Global)) FaultKind). r >>= (λ after. Ok (Reads after))) read
-by_tests form before line words false false are is read = ap (λ (r : Result (Option (SoFar Global)) FaultKind). r >>= (λ after. Ok (Reads after))) read
-by_tests form before line [] false true are is read = absurd (false≢true (sym is))
-by_tests form before line (word ∷ words) false true are is read =
+    → meaning (cond s None (cond g (request_of words) None)) before line ≡ cond s (Ok []) (cond g (Ok words) (Err Byte)) >>= (λ words. words_say before words)
+by_tests before line words true g are is read = ap (λ (r : Result (Option (SoFar Global)) FaultKind). r >>= (λ after. Ok (Reads after))) read
+by_tests before line words false false are is read = ap (λ (r : Result (Option (SoFar Global)) FaultKind). r >>= (λ after. Ok (Reads after))) read
+by_tests before line [] false true are is read = absurd (false≢true (sym is))
+by_tests before line (word ∷ words) false true are is read =
     let some : (length (word ∷ words) == 0) ≡ false = grind (arith, nat_tests) in
-    let request = request_of form (word ∷ words) in
+    let request = request_of (word ∷ words) in
     by_request before line request (read ∙ ap (λ (ws : List (List ℕ)). read_words before ws >>= (λ so_far. Ok (Some so_far))) (sym are))
-    ∙ ap (λ (ws : List (List ℕ)). words_by request before ws) are ∙ sym (by_first form before (word ∷ words) request some refl)
+    ∙ ap (λ (ws : List (List ℕ)). words_by request before ws) are ∙ sym (by_first before (word ∷ words) request some refl)
 
 not_long : (n : ℕ) → n ≤ MOST_BYTES → nat_lt MOST_BYTES n ≡ false
 not_long n most = grind (arith, nat_tests)
@@ -58,16 +57,16 @@ too_long : (n : ℕ) → MOST_BYTES < n → nat_lt MOST_BYTES n ≡ true
 too_long n more = grind (arith, nat_tests)
 
 -- a line is cut, and its words say what it says
-pub cut_says : (form : Form) (before : Option (SoFar Global)) (line : List ℕ) → length line ≤ MOST_BYTES → meant form before line ≡ words_read line >>= (λ words. words_say form before words)
+pub cut_says : (before : Option (SoFar Global)) (line : List ℕ) → length line ≤ MOST_BYTES → meant before line ≡ words_read line >>= (λ words. words_say before words)
 unfolding meant read_line
-cut_says form before line most =
-    ap (λ (t : Bool). cond t (Err Long) (meaning (request_by form line) before line)) (not_long (length line) most)
-    ∙ by_tests form before line (words_of line) (is_skipped (words_of line)) (has_good_bytes line) refl refl refl
+cut_says before line most =
+    ap (λ (t : Bool). cond t (Err Long) (meaning (request_by line) before line)) (not_long (length line) most)
+    ∙ by_tests before line (words_of line) (is_skipped (words_of line)) (has_good_bytes line) refl refl refl
 
 -- one that is longer than any script isn't
-pub long_says : (form : Form) (before : Option (SoFar Global)) (line : List ℕ) → MOST_BYTES < length line → meant form before line ≡ Err Long
+pub long_says : (before : Option (SoFar Global)) (line : List ℕ) → MOST_BYTES < length line → meant before line ≡ Err Long
 unfolding meant
-long_says form before line more = ap (λ (t : Bool). cond t (Err Long) (meaning (request_by form line) before line)) (too_long (length line) more)
+long_says before line more = ap (λ (t : Bool). cond t (Err Long) (meaning (request_by line) before line)) (too_long (length line) more)
 
 pub line_shorter : (text : List ℕ) → length (line_of text) ≤ length text
 line_shorter text = omega (arith, length-take (position_or_len (λ byte. byte == 10) text) text)

@@ -1,7 +1,7 @@
 -- An answer in JSON is one line.
 use Rattle.std.proofs.Common.{◌≡◌, ◌≢◌, ◌==◌, ◌%◌, ◌/◌, ℕ, zero, suc, ◌+◌, Bool, true, false, not, ◌&&◌, cond, List, [], ◌∷◌, ◌++◌, length, refl, sym, ap, ◌∙◌, subst, arith, append_assoc, codes}
 use Rattle.std.proofs.Common.{decimal, drop, Option, Some, None, All, nat_lt}
-use Rattle.std.proofs.Common.{Global}
+use Rattle.std.proofs.Common.{◌-◌, Global, map, take}
 use Rattle.std.specs.Fmt.{digit_glyph, digits, digits_onto}
 use Rattle.std.specs.List.{list_all}
 use Rattle.std.proofs.lemmas.Bool.{false≢true}
@@ -10,7 +10,7 @@ use Rattle.std.proofs.lemmas.List.Elements.{All-cons, All-nil}
 use Rattle.std.proofs.lemmas.List.Folds.{list_all-append}
 use Rattle.hv_history.specs.declared.entry.Entry.{Entry}
 use Rattle.hv_text.specs.Audit.{entry_text}
-use Rattle.hv_serve.specs.Json.{IsOneLine, all_escaped, escaped, events_value, fault_value, more_events, object_text, shown_member, string_of, text_value}
+use Rattle.hv_serve.specs.Json.{IsOneLine, all_escaped, elements, escaped, events_value, fault_value, more_events, object_text, separated, shown_member, string_of, text_value}
 use Rattle.hv_serve.specs.Outcome.{why_text}
 use Rattle.hv_serve.specs.Session.{AreTurns, Served, Turn, history_of, kept_of, shown_of}
 use Rattle.hv_serve.specs.declared.form.Form.TheVariants.{Json}
@@ -116,18 +116,31 @@ member_fits (Fault kind) shown = refl
 member_fits (Boot why) shown = refl
 member_fits (Host why) shown = refl
 
-object_one : (number : ℕ) (events : List ℕ) (outcome : Outcome) (shown : Option (List ℕ)) → Fits events → IsOneLine (object_text number events outcome shown)
+-- the elements of an array
+separated_fits : (byte : ℕ) (t : Bool) → (byte == 10) ≡ t → in_line (cond t 44 byte) ≡ true
+separated_fits byte true is = refl
+separated_fits byte false is = ap not is
+
+separated_fit : (text : List ℕ) → Fits (map separated text)
+separated_fit [] = refl
+separated_fit (byte ∷ text) = both (in_line (separated byte)) (list_all in_line (map separated text)) (separated_fits byte (byte == 10) refl) (separated_fit text)
+
+object_one : (number : ℕ) (events objects : List ℕ) (outcome : Outcome) (shown : Option (List ℕ)) → Fits events → IsOneLine (object_text number events objects outcome shown)
 unfolding object_text
-object_one number events outcome shown fits =
+object_one number events objects outcome shown fits =
     let a : List ℕ = codes "{\"line\":" ++ decimal number in
     let b : List ℕ = a ++ codes ",\"events\":[" in
     let c : List ℕ = b ++ events in
-    let d : List ℕ = c ++ codes "],\"fault\":" in
+    let t : List ℕ = codes "],\"trace\":[" ++ elements objects in
+    let o : List ℕ = c ++ t in
+    let d : List ℕ = o ++ codes "],\"fault\":" in
     let e : List ℕ = d ++ fault_value outcome in
     let f : List ℕ = e ++ shown_member outcome shown in
     let a_fits : Fits a = join (codes "{\"line\":") (decimal number) refl (decimal_fits number) in
     let c_fits : Fits c = join b events (join a (codes ",\"events\":[") a_fits refl) fits in
-    let e_fits : Fits e = join d (fault_value outcome) (join c (codes "],\"fault\":") c_fits refl) (fault_fits outcome) in
+    let t_fits : Fits t = join (codes "],\"trace\":[") (elements objects) refl (separated_fit (take (length objects - 1) objects)) in
+    let o_fits : Fits o = join c t c_fits t_fits in
+    let e_fits : Fits e = join d (fault_value outcome) (join o (codes "],\"fault\":") o_fits refl) (fault_fits outcome) in
     let f_fits : Fits f = join e (shown_member outcome shown) e_fits (member_fits outcome shown) in
     record {
       line = f ++ codes "}";
@@ -143,5 +156,5 @@ answers_one number before (turn ∷ turns) now some =
     let count = length (history_of (kept_of before)) in
     let events : List (Entry Global) = drop count (history_of after) in
     All-cons (λ turn. IsOneLine turn.answer) turn turns
-    (subst IsOneLine (sym some.1.answer) (object_one number (events_value (count + 1) events) turn.outcome (shown_of turn.outcome after turn.words) (events_fit (count + 1) events)))
+    (subst IsOneLine (sym some.1.answer) (object_one number (events_value (count + 1) events) turn.objects turn.outcome (shown_of turn.outcome after turn.words) (events_fit (count + 1) events)))
     (answers_one (number + 1) some.0 turns now some.2)

@@ -1,11 +1,11 @@
 -- The strings of events, and their bytes.
-use Rattle.std.proofs.Common.{◌≡◌, ◌==◌, ◌≤◌, ◌<◌, ◌-◌, ℕ, zero, suc, ◌+◌, Bool, false, if◌then◌else◌, List, [], ◌∷◌, ◌++◌, length, sym, ap, ◌∙◌, arith, append-nil, append_assoc, codes}
+use Rattle.std.proofs.Common.{◌≡◌, ◌==◌, ◌≤◌, ◌<◌, ◌-◌, ℕ, zero, suc, ◌+◌, Bool, false, if◌then◌else◌, List, [], ◌∷◌, ◌++◌, length, map, refl, sym, ap, ◌∙◌, arith, append-nil, append_assoc, codes}
 use Rattle.std.proofs.Common.{drop, take, length-drop}
 use Rattle.std.proofs.Common.{Some, get_or, slice_get, take_all, Global}
 use Rattle.std.proofs.lemmas.Bool.Decides.{nat_tests}
 use Rattle.hv_history.specs.declared.entry.Entry.{Entry}
 use Rattle.hv_text.specs.Audit.{entry_text}
-use Rattle.hv_serve.specs.Json.{all_escaped, escaped, events_value, more_events, string_of}
+use Rattle.hv_serve.specs.Json.{all_escaped, escaped, events_value, more_events, separated, string_of}
 use Rattle.hv_serve.proofs.Texts.{get_drop}
 
 -- the string of an event, after a comma unless it is the first
@@ -81,3 +81,11 @@ escaped_more (b ∷ text) (suc k) less =
     ap (λ (m : ℕ). all_escaped (take m (b ∷ text))) one
     ∙ ap (λ (l : List ℕ). escaped b ++ l) (escaped_more text k (omega arith))
     ∙ sym (append_assoc (escaped b) (all_escaped (take k text)) (escaped (get_or text k 0)))
+
+-- one byte more of an array's elements
+pub separated_more : (text : List ℕ) (k : ℕ) → k < length text → map separated (take (k + 1) text) ≡ map separated (take k text) ++ separated (get_or text k 0) ∷ []
+separated_more [] k less = absurd (omega arith)
+separated_more (b ∷ text) zero less = refl
+separated_more (b ∷ text) (suc k) less =
+    let one : suc k + 1 ≡ suc (k + 1) = omega arith in
+    ap (λ (m : ℕ). map separated (take m (b ∷ text))) one ∙ ap (λ (l : List ℕ). separated b ∷ l) (separated_more text k (omega arith))

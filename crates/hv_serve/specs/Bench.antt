@@ -16,9 +16,10 @@ use Rattle.hv_history.specs.declared.kept.HostRefused.TheVariants as host
 use Rattle.hv_threads.specs.Acted.{HasActed, WasStopped}
 use Rattle.hv_words.specs.Words.{IsPlain}
 use Rattle.hv_serve.specs.Meant.{Asks, Explains, Meant, Peeks, Reads, request_line, request_of}
-use Rattle.hv_serve.specs.Session.{Becomes, Served, answer_of, shown_of}
+use Rattle.hv_serve.specs.Session.{AreTraced, Becomes, Served, answer_of, shown_of}
 use Rattle.hv_serve.specs.declared.bench.Bench.{Bench}
 use Rattle.hv_serve.specs.declared.form.Form.{Form}
+use Rattle.hv_serve.specs.declared.form.Form.TheVariants.{Json}
 use Rattle.hv_serve.specs.declared.outcome.Outcome.{Outcome}
 use Rattle.hv_serve.specs.declared.outcome.Outcome.TheVariants.{Done, Table, Peek, Explain, Fault, Boot, Host}
 use Rattle.hv_serve.specs.declared.request.Request.{Request}
@@ -52,9 +53,9 @@ words_by (Some request) before words = request_line request before words
 words_by None before words = reads (read_words before words)
 
 -- the meaning of a line's words, after what was read before
-abbrev pub words_say : Form → Option (SoFar Global) → List (List ℕ) → Result Meant FaultKind
-words_say form before words =
-    if length words == 0 then Ok (Reads before) else words_by (request_of form words) before words
+abbrev pub words_say : Option (SoFar Global) → List (List ℕ) → Result Meant FaultKind
+words_say before words =
+    if length words == 0 then Ok (Reads before) else words_by (request_of words) before words
 
 -- after a line with this meaning and this outcome, the bench stands for the new state of the session
 pub record HasBecome (before : Option Served) (says : Result Meant FaultKind) (outcome : Outcome)
@@ -113,15 +114,19 @@ pub record Shows (outcome : Outcome) (now : Option (Kept Global)) (shown : Optio
 pub record HasAnswered (form : Form) (number before : ℕ) (outcome told : Outcome) (now : Option (Kept Global))
     (old new : Option (List ℕ)) : Type 0 where
   pub told_as : IsToldAs outcome told
+  pub objects : List ℕ
+  pub traced : form ≡ Json → AreTraced before now objects
   pub words : List ℕ
   pub plain : IsPlain words
-  pub wrote : Appends old new (answer_of form number before told now words)
+  pub wrote : Appends old new (answer_of form number before told now objects words)
 
 -- as `HasAnswered`, but the writer gets a first part of the answer
 pub record HasAnsweredPart (form : Form) (number before : ℕ) (outcome : Outcome) (now : Option (Kept Global))
     (old new : Option (List ℕ)) : Type 0 where
   pub told : Outcome
   pub told_as : IsToldAs outcome told
+  pub objects : List ℕ
+  pub traced : form ≡ Json → AreTraced before now objects
   pub words : List ℕ
   pub plain : IsPlain words
-  pub wrote : HasPart (answer_of form number before told now words) old new
+  pub wrote : HasPart (answer_of form number before told now objects words) old new

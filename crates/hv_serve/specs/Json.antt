@@ -1,5 +1,6 @@
 -- The answer to a line in JSON.
-use Rattle.std.specs.Prelude.{ℕ, ◌≡◌, ◌≢◌, ◌==◌, ◌+◌, ◌++◌, List, [], ◌∷◌, All, if◌then◌else◌, codes, decimal}
+use Rattle.std.specs.Prelude.{ℕ, ◌≡◌, ◌≢◌, ◌==◌, ◌+◌, ◌-◌, ◌++◌, List, [], ◌∷◌, length, map, take, All, codes}
+use Rattle.std.specs.Prelude.{if◌then◌else◌, decimal}
 use Rattle.std.specs.Prelude.{Option, None, Some}
 use Rattle.hv_history.specs.declared.entry.Entry.{Entry}
 use Rattle.hv_text.specs.Audit.{entry_text}
@@ -58,10 +59,20 @@ shown_member (Fault kind) shown = []
 shown_member (Boot why) shown = []
 shown_member (Host why) shown = []
 
--- the object that answers the line with this number, with its events, its outcome and what it shows
-unfoldable pub object_text : ℕ → List ℕ → Outcome → Option (List ℕ) → List ℕ
-object_text number events outcome shown =
-    codes "{\"line\":" ++ decimal number ++ codes ",\"events\":[" ++ events ++ codes "],\"fault\":"
+-- a byte of the objects of events, each in a line. A comma takes the place of the line feed between two
+abbrev pub separated : ℕ → ℕ
+separated byte = if byte == 10 then 44 else byte
+
+-- objects, each in a line, as the elements of an array
+abbrev pub elements : List ℕ → List ℕ
+elements objects = map separated (take (length objects - 1) objects)
+
+-- The object that answers the line with this number, with its events, its outcome and what it shows. The
+-- events come twice: as lines of the audit, and as the objects that a trace has of them
+unfoldable pub object_text : ℕ → List ℕ → List ℕ → Outcome → Option (List ℕ) → List ℕ
+object_text number events objects outcome shown =
+    codes "{\"line\":" ++ decimal number ++ codes ",\"events\":[" ++ events
+    ++ (codes "],\"trace\":[" ++ elements objects) ++ codes "],\"fault\":"
     ++ fault_value outcome ++ shown_member outcome shown ++ codes "}\n"
 
 -- the line before all answers

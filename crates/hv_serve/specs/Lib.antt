@@ -6,4 +6,5 @@ pub mod Meant
 pub mod Outcome
 pub mod Peek
 pub mod Session
+pub mod Traced
 pub mod Turned

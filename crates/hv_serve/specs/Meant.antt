@@ -9,8 +9,6 @@ use Rattle.hv_script.specs.declared.fault.FaultKind.{FaultKind}
 use Rattle.hv_script.specs.declared.fault.FaultKind.TheVariants.{Long, NoBoot, Count}
 use Rattle.hv_script.specs.declared.script.TheConstants.{MOST_BYTES}
 use Rattle.hv_serve.specs.Peek.{peek_of}
-use Rattle.hv_serve.specs.declared.form.Form.{Form}
-use Rattle.hv_serve.specs.declared.form.Form.TheVariants.{Text, Json}
 use Rattle.hv_serve.specs.declared.peek.Peek.{Peek}
 use Rattle.hv_serve.specs.declared.request.Request.{Request}
 use Rattle.hv_serve.specs.declared.request.Request.TheVariants as request
@@ -26,16 +24,12 @@ pub data Meant : Type 0 where
   -- a request for the explanation of the last event
   Explains : Meant
 
--- what a line asks for, by its first word: the table, and in JSON also a look or an explanation
-abbrev pub request_in : Form → List (List ℕ) → Option Request
-request_in Text words = None
-request_in Json words =
-    if begins_with words (codes "peek") then Some request.Peek
-    else (if begins_with words (codes "explain") then Some request.Explain else None)
-
-abbrev pub request_of : Form → List (List ℕ) → Option Request
-request_of form words =
-    if begins_with words (codes "table") then Some request.Table else request_in form words
+-- what a line asks for, by its first word
+abbrev pub request_of : List (List ℕ) → Option Request
+request_of words =
+    if begins_with words (codes "table") then Some request.Table
+    else (if begins_with words (codes "peek") then Some request.Peek
+    else (if begins_with words (codes "explain") then Some request.Explain else None))
 
 -- a line of one word
 abbrev pub alone : Meant → List (List ℕ) → Result Meant FaultKind
@@ -55,9 +49,9 @@ request_line request None words = Err NoBoot
 request_line request (Some so_far) words = asked request words
 
 -- what a line asks for. It isn't skipped, and has no bad byte
-abbrev pub request_by : Form → List ℕ → Option Request
-request_by form line = if is_skipped (words_of line) then None
-    else (if has_good_bytes line then request_of form (words_of line) else None)
+abbrev pub request_by : List ℕ → Option Request
+request_by line = if is_skipped (words_of line) then None
+    else (if has_good_bytes line then request_of (words_of line) else None)
 
 -- the meaning of a line that asks for this, or is read as one of a script
 abbrev pub meaning : Option Request → Option (SoFar Global) → List ℕ → Result Meant FaultKind
@@ -68,6 +62,6 @@ meaning None before line = do
 
 -- the meaning of a line after what was read before: its meaning in a script, unless it asks for something, or
 -- is longer than any script
-unfoldable pub meant : Form → Option (SoFar Global) → List ℕ → Result Meant FaultKind
-meant form before line =
-    if nat_lt MOST_BYTES (length line) then Err Long else meaning (request_by form line) before line
+unfoldable pub meant : Option (SoFar Global) → List ℕ → Result Meant FaultKind
+meant before line =
+    if nat_lt MOST_BYTES (length line) then Err Long else meaning (request_by line) before line

@@ -1,12 +1,12 @@
 -- A session: its lines, the outcome of each, and the answer to each.
 use Rattle.std.specs.Prelude.{ℕ, ◌≡◌, ◌≢◌, ◌⊎◌, ◌↔◌, ◌==◌, ◌+◌, ◌++◌, List, [], ◌∷◌, length, drop, map, codes}
 use Rattle.std.specs.Prelude.{decimal, All, IfSome, Option, Some, None, Result, Ok, Err, if◌then◌else◌}
-use Rattle.std.specs.Prelude.{option_and_then, option_map}
+use Rattle.std.specs.Prelude.{option_and_then, option_map, take, unwrap_or}
 use Rattle.std.specs.Io.KnownBytes.{Appends}
 use Rattle.std.specs.List.{join_with_byte}
 use Rattle.std.specs.declared.alloc.Global.{Global}
 use Rattle.hex.specs.Hex.{encode_lower}
-use Rattle.hv_explain.specs.Written.{head_text, last_of}
+use Rattle.hv_explain.specs.Written.{AreTold, head_text, last_of}
 use Rattle.hv_history.specs.Kept.{IsRun, Kept}
 use Rattle.hv_history.specs.Row.{events_of}
 use Rattle.hv_history.specs.declared.entry.Entry.{Entry}
@@ -27,6 +27,7 @@ use Rattle.hv_shared.specs.ByCaller.{receipts_by}
 use Rattle.hv_text.specs.Audit.{entries_text}
 use Rattle.hv_text.specs.Table.{table_text}
 use Rattle.hv_threads.specs.Perform.{IsStopped}
+use Rattle.hv_trace.specs.Trace.{traces}
 use Rattle.hv_words.specs.Words.{IsPlain}
 use Rattle.hv_serve.specs.Json.{end_object, events_value, greeting_text, object_text}
 use Rattle.hv_serve.specs.Meant.{Asks, Explains, Meant, Peeks, Reads, meant}
@@ -135,16 +136,6 @@ abbrev pub table_of : Option (Kept Global) → List ℕ
 table_of None = []
 table_of (Some kept) = table_text (state_of kept)
 
--- what follows the audit's lines in the answer to the line with this number
-abbrev pub told_of : ℕ → Outcome → Option (Kept Global) → List ℕ
-told_of number Done now = []
-told_of number Table now = table_of now
-told_of number (Peek peek) now = []
-told_of number Explain now = []
-told_of number (Fault kind) now = fault_text number (Fault kind)
-told_of number (Boot why) now = fault_text number (Boot why)
-told_of number (Host why) now = fault_text number (Host why)
-
 -- the audit's lines of the entries after the first `before`
 abbrev pub new_text : ℕ → Option (Kept Global) → List ℕ
 new_text before now = entries_text (before + 1) (drop before (history_of now))
@@ -168,29 +159,55 @@ shown_in (Host why) kept words = None
 abbrev pub shown_of : Outcome → Option (Kept Global) → List ℕ → Option (List ℕ)
 shown_of outcome now words = option_and_then (λ kept. shown_in outcome kept words) now
 
--- the answer to the line with this number, before which this number of events had happened: the audit's lines
--- of the entries that it adds, then the table that it asks for, or why it wasn't done. In JSON all of them
--- stand in one object, and an explanation has these words
-abbrev pub answer_of : Form → ℕ → ℕ → Outcome → Option (Kept Global) → List ℕ → List ℕ
-answer_of Text number before outcome now words = new_text before now ++ told_of number outcome now
-answer_of Json number before outcome now words = object_text number
-    (events_value (before + 1) (drop before (history_of now))) outcome (shown_of outcome now words)
+-- what follows the audit's lines in the answer to the line with this number: the table, a line of what else
+-- it shows, or why it wasn't done
+abbrev pub told_of : ℕ → Outcome → Option (List ℕ) → List ℕ
+told_of number Done shown = []
+told_of number Table shown = unwrap_or shown []
+told_of number (Peek peek) shown = unwrap_or shown (codes "none") ++ codes "\n"
+told_of number Explain shown = unwrap_or shown (codes "none") ++ codes "\n"
+told_of number (Fault kind) shown = fault_text number (Fault kind)
+told_of number (Boot why) shown = fault_text number (Boot why)
+told_of number (Host why) shown = fault_text number (Host why)
 
--- a line without its line feed, its outcome, the answer to it, and the words of an explanation in the answer
+-- the answer to the line with this number, before which this number of events had happened: the audit's lines
+-- of the entries that it adds, then what it asks for, or why it wasn't done. In JSON all of them stand in one
+-- object
+abbrev pub answer_with : Form → ℕ → ℕ → Outcome → Option (Kept Global) → List ℕ → Option (List ℕ) → List ℕ
+answer_with Text number before outcome now objects shown = new_text before now ++ told_of number outcome shown
+answer_with Json number before outcome now objects shown = object_text number
+    (events_value (before + 1) (drop before (history_of now))) objects outcome shown
+
+-- and if it explains an event, with these words
+abbrev pub answer_of : Form → ℕ → ℕ → Outcome → Option (Kept Global) → List ℕ → List ℕ → List ℕ
+answer_of form number before outcome now objects words = answer_with form number before outcome now objects
+    (shown_of outcome now words)
+
+-- these are the objects of the entries after the first `before`: of each what a trace has of it, in a line
+abbrev pub AreTraced : ℕ → Option (Kept Global) → List ℕ → Type 0
+AreTraced before None objects = objects ≡ []
+AreTraced before (Some kept) objects = AreTold traces kept.config (take before kept.history)
+    (drop before kept.history) objects
+
+-- a line without its line feed, its outcome, the answer to it, and in the answer the objects of the line's
+-- events and the words of an explanation
 pub record Turn : Type 0 where
   pub line : List ℕ
   pub outcome : Outcome
   pub answer : List ℕ
+  pub objects : List ℕ
   pub words : List ℕ
 
--- the line with this number, with its outcome and its answer. Explanations have plain words
+-- the line with this number, with its outcome and its answer. Explanations have plain words, and in JSON
+-- events have objects
 pub record IsTurn (form : Form) (number : ℕ) (before : Option Served) (turn : Turn) (after : Option Served) :
     Type 0 where
   pub one : All (λ byte. byte ≢ 10) turn.line
-  pub becomes : Becomes before (meant form (read_of before) turn.line) turn.outcome after
+  pub becomes : Becomes before (meant (read_of before) turn.line) turn.outcome after
   pub plain : IsPlain turn.words
+  pub traced : form ≡ Json → AreTraced (length (history_of (kept_of before))) (kept_of after) turn.objects
   pub answer : turn.answer ≡ answer_of form number (length (history_of (kept_of before))) turn.outcome
-      (kept_of after) turn.words
+      (kept_of after) turn.objects turn.words
 
 -- the lines one after another. The first one has this number
 abbrev pub AreTurns : Form → ℕ → Option Served → List Turn → Option Served → Type 0

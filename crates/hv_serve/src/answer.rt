@@ -1,6 +1,6 @@
 // Writing the answer to a line.
 ghost use Rattle.std.specs.Prelude.{◌≡◌, ◌+◌, ◌≤◌, ◌<◌, ◌++◌, [], IfOk, OnOk, Some, codes, decimal, drop};
-ghost use Rattle.std.specs.Prelude.{IfErr, OnErr, length};
+ghost use Rattle.std.specs.Prelude.{IfErr, IfSome, OnErr, length, option_map, unwrap_or};
 ghost use Rattle.std.specs.Io.KnownBytes.{Appends};
 ghost use Rattle.hv_defs.specs.declared.sizes.TheConstants.{REPS_END};
 ghost use Rattle.hv_history.specs.History.{entry_by};
@@ -8,19 +8,22 @@ ghost use Rattle.hv_policy.specs.Parts.{next_in, reply_of};
 ghost use Rattle.hv_run.specs.Failure.{exit_of};
 ghost use Rattle.hv_run.specs.Written.{HasPart};
 ghost use Rattle.hv_text.specs.Audit.{entries_text, entry_text};
-ghost use Rattle.hv_serve.specs.Bench.{HasAnswered, HasAnsweredPart, IsToldAs, kept_in};
+ghost use Rattle.hv_serve.specs.Bench.{HasAnswered, HasAnsweredPart, kept_in};
 ghost use Rattle.hv_serve.specs.Outcome.{fault_text};
-ghost use Rattle.hv_serve.specs.Session.{end_text, greeting, history_of, new_text, table_of, told_of};
+ghost use Rattle.hv_serve.specs.Session.{AreTraced, answer_with, end_text, greeting, history_of, new_text};
+ghost use Rattle.hv_serve.specs.Session.{told_of};
+ghost use Rattle.hv_serve.specs.Traced.{IsTracedIn};
 ghost use Rattle.hv_serve.specs.Turned.{closing};
-ghost use Rattle.hv_serve.specs.declared.form.Form.TheVariants.{Text};
+ghost use Rattle.hv_serve.specs.declared.form.Form.TheVariants.{Json};
 
 use crate::bench::Bench;
 use crate::form::Form;
-use crate::json::put_json;
+use crate::json::put_object;
 use crate::outcome::Outcome;
-use hv_history::{EntryRef, HostRefused, Kept};
+use crate::shown::take_shown;
+use hv_history::{EntryRef, Kept};
 use hv_run::{Exit, Failure};
-use hv_text::{LINE, PrintFault, Scratch, audit_line, table};
+use hv_text::{LINE, Scratch, audit_line};
 use itoa::Buffer;
 use std::alloc::Global;
 use std::io::Write;
@@ -37,10 +40,10 @@ pub(crate) fn put_answer<W: Write>(
     number: u64,
     outcome: Outcome,
 ) -> Result<Outcome, Failure>
-    ensures told { IfOk result (λ told. HasAnswered form number before outcome told (kept_in bench.now)
-        (W.contents out.old) (W.contents out.new)) }
-    ensures part { OnErr result (HasAnsweredPart form number before outcome (kept_in bench.now)
-        (W.contents out.old) (W.contents out.new)) }
+    ensures told { (form ≡ Json → IsTracedIn before bench.now) → IfOk result (λ told. HasAnswered form number
+        before outcome told (kept_in bench.now) (W.contents out.old) (W.contents out.new)) }
+    ensures part { (form ≡ Json → IsTracedIn before bench.now) → OnErr result (HasAnsweredPart form number
+        before outcome (kept_in bench.now) (W.contents out.old) (W.contents out.new)) }
     ensures host { IfErr result (λ failure. exit_of failure ≡ Exit.Host) }
 {
     let mut text = Vec::new(alloc);
@@ -53,6 +56,8 @@ pub(crate) fn put_answer<W: Write>(
     }
 }
 
+// Writes the answer. What it shows is built in memory first, since memory may run out for it. Returns the
+// outcome of the line, which is out of memory if there is no memory for what it shows.
 fn put_in<W: Write>(
     alloc: Global,
     form: Form,
@@ -62,12 +67,35 @@ fn put_in<W: Write>(
     number: u64,
     outcome: Outcome,
 ) -> Result<Outcome, Failure>
-    ensures { IfOk result (λ told. HasAnswered form number before outcome told (kept_in bench.now)
-        (W.contents out.old) (W.contents out.new)) }
+    ensures { (form ≡ Json → IsTracedIn before bench.now) → IfOk result (λ told. HasAnswered form number
+        before outcome told (kept_in bench.now) (W.contents out.old) (W.contents out.new)) }
+{
+    let Some(objects) = objects_of(bench, before) else {
+        return Err(Failure::Memory);
+    };
+    let (told, shown) = take_shown(alloc, bench, outcome);
+    match put_by_form(form, out, bench, before, number, told, objects, &shown) {
+        Ok(()) => Ok(told),
+        Err(failure) => Err(failure),
+    }
+}
+
+fn put_by_form<W: Write>(
+    form: Form,
+    out: &mut W,
+    bench: &Option<Bench>,
+    before: usize,
+    number: u64,
+    outcome: Outcome,
+    objects: &[u8],
+    shown: &Option<Vec<u8>>,
+) -> Result<(), Failure>
+    ensures { OnOk result (Appends (W.contents out.old) (W.contents out.new) (answer_with form number before
+        outcome (kept_in bench.now) objects.now (option_map (λ text. text.items) shown.now))) }
 {
     match form {
-        Form::Text => put_text(out, bench, before, number, outcome),
-        Form::Json => put_json(alloc, out, bench, before, number, outcome),
+        Form::Text => put_text(out, bench, before, number, outcome, shown),
+        Form::Json => put_object(out, bench, before, number, outcome, objects, shown),
     }
 }
 
@@ -77,12 +105,25 @@ fn put_text<W: Write>(
     before: usize,
     number: u64,
     outcome: Outcome,
-) -> Result<Outcome, Failure>
-    ensures { IfOk result (λ told. HasAnswered Text number before outcome told (kept_in bench.now)
-        (W.contents out.old) (W.contents out.new)) }
+    shown: &Option<Vec<u8>>,
+) -> Result<(), Failure>
+    ensures { OnOk result (Appends (W.contents out.old) (W.contents out.new)
+        (new_text before (kept_in bench.now)
+        ++ told_of number outcome (option_map (λ text. text.items) shown.now))) }
 {
     put_new(out, bench, before)?;
-    put_outcome(out, bench, number, outcome)
+    put_told(out, number, outcome, shown)
+}
+
+// Returns the objects of the events after the first `before`, each in a line. `None` if memory ran out.
+fn objects_of(bench: &Option<Bench>, before: usize) -> Option<&[u8]>
+    ensures { IsTracedIn before bench.now → IfSome result (λ objects. AreTraced before (kept_in bench.now)
+        objects.now) }
+{
+    match bench {
+        None => Some(b""),
+        Some(bench) => bench.objects(before),
+    }
 }
 
 // Returns the number of events.
@@ -186,51 +227,52 @@ fn put_entry<W: Write>(out: &mut W, number: u64, entry: &EntryRef<'_>) -> Result
     put_bytes(out, &buffer[..len])
 }
 
-// Writes what follows the lines of the audit: the table, or why the line wasn't done. In text, no line asks
-// for a look or an explanation.
-fn put_outcome<W: Write>(
+// Writes what follows the lines of the audit: what the line asks for, or why it wasn't done.
+fn put_told<W: Write>(
     out: &mut W,
-    bench: &Option<Bench>,
     number: u64,
     outcome: Outcome,
-) -> Result<Outcome, Failure>
-    ensures { IfOk result (λ told. IsToldAs outcome told × Appends (W.contents out.old) (W.contents out.new)
-        (told_of number told (kept_in bench.now))) }
+    shown: &Option<Vec<u8>>,
+) -> Result<(), Failure>
+    ensures { OnOk result (Appends (W.contents out.old) (W.contents out.new) (told_of number outcome
+        (option_map (λ text. text.items) shown.now))) }
 {
     match outcome {
-        Outcome::Done | Outcome::Peek(_) | Outcome::Explain => Ok(outcome),
-        Outcome::Table => put_table(out, bench, number),
+        Outcome::Done => Ok(()),
+        Outcome::Table => put_shown(out, shown, b""),
+        Outcome::Peek(_) | Outcome::Explain => put_line(out, shown),
         Outcome::Fault(_) | Outcome::Boot(_) | Outcome::Host(_) => put_fault(out, number, outcome),
     }
 }
 
-// Writes the table of the current state, or that there is no memory for it.
-fn put_table<W: Write>(out: &mut W, bench: &Option<Bench>, number: u64) -> Result<Outcome, Failure>
-    ensures { IfOk result (λ told. IsToldAs Outcome.Table told × Appends (W.contents out.old)
-        (W.contents out.new) (told_of number told (kept_in bench.now))) }
+// Writes what a line shows, in a line. If it shows nothing, that says so.
+fn put_line<W: Write>(out: &mut W, shown: &Option<Vec<u8>>) -> Result<(), Failure>
+    ensures { OnOk result (Appends (W.contents out.old) (W.contents out.new)
+        (unwrap_or (option_map (λ text. text.items) shown.now) (codes "none") ++ codes "\n")) }
 {
-    let Some(bench) = bench else {
-        return Ok(Outcome::Table);
-    };
-    // Proof: the history is a run.
-    let _history = bench.kept.history();
-    match table(out, &bench.kept) {
-        Ok(()) => Ok(Outcome::Table),
-        Err(PrintFault::Memory) => put_fault(out, number, Outcome::Host(HostRefused::Memory)),
-        Err(PrintFault::Write { .. }) => Err(Failure::Write),
+    put_shown(out, shown, b"none")?;
+    put_bytes(out, b"\n")
+}
+
+// Writes what a line shows, or another text if it shows nothing.
+fn put_shown<W: Write>(out: &mut W, shown: &Option<Vec<u8>>, none: &[u8]) -> Result<(), Failure>
+    ensures { OnOk result (Appends (W.contents out.old) (W.contents out.new)
+        (unwrap_or (option_map (λ text. text.items) shown.now) none.now)) }
+{
+    match shown {
+        None => put_bytes(out, none),
+        Some(text) => put_bytes(out, text),
     }
 }
 
 // Writes why the line with this number wasn't done.
-fn put_fault<W: Write>(out: &mut W, number: u64, outcome: Outcome) -> Result<Outcome, Failure>
-    ensures told { IfOk result (λ told. told ≡ outcome) }
-    ensures text { OnOk result (Appends (W.contents out.old) (W.contents out.new)
+fn put_fault<W: Write>(out: &mut W, number: u64, outcome: Outcome) -> Result<(), Failure>
+    ensures { OnOk result (Appends (W.contents out.old) (W.contents out.new)
         (fault_text number outcome)) }
 {
     put_number(out, b"fault: line ", number, b": ")?;
     put_bytes(out, outcome.text().as_bytes())?;
-    put_bytes(out, b"\n")?;
-    Ok(outcome)
+    put_bytes(out, b"\n")
 }
 
 // Writes a number in decimal, between two texts.

@@ -1,19 +1,27 @@
 // A booted machine, and the effect of its lines.
 ghost use Rattle.std.specs.Prelude.{◌≡◌, ◌≢◌, ◌≤◌, Option, Some, None};
-ghost use Rattle.std.specs.Prelude.{All, List, ℕ, length};
+ghost use Rattle.std.specs.Prelude.{All, IfSome, List, ℕ, length};
 ghost use Rattle.hv_script.specs.Cursor.{line_of};
 ghost use Rattle.hv_script.specs.Script.{first_line, later_line, phase_line, processor_line, read_words};
 ghost use Rattle.hv_script.specs.declared.script.TheConstants.{MOST_BYTES as MOST};
 ghost use Rattle.hv_serve.specs.Bench.{HasBecome, HasTaken, IsBench, IsOutcomeOf, StandsFor, reads};
-ghost use Rattle.hv_serve.specs.Bench.{words_say};
+ghost use Rattle.hv_serve.specs.Bench.{kept_in, words_say};
 ghost use Rattle.hv_serve.specs.Input.{AreKept};
 ghost use Rattle.hv_serve.specs.Meant.{meant};
-ghost use Rattle.hv_serve.specs.Session.{Served, read_of};
+ghost use Rattle.hv_serve.specs.Session.{AreTraced, Served, history_of, read_of};
+ghost use Rattle.hv_serve.specs.Traced.{IsTracedIn};
+ghost use Rattle.hv_serve.specs.declared.form.Form.TheVariants.{Json};
+ghost use Rattle.hv_history.specs.Kept.{Kept as KeptValue};
+ghost use Rattle.hv_policy.specs.declared.event.Action.{Action as ActionValue};
+ghost use Rattle.hv_policy.specs.declared.event.Caller.{Caller as CallerValue};
+ghost use Rattle.hv_threads.specs.Acted.{HasTried};
+ghost use Rattle.std.specs.declared.alloc.Global.{Global as GlobalValue};
 
-use crate::form::Form;
+use crate::form::{Form, Place};
 use crate::outcome::{Outcome, outcome_of, refused_boot};
 use crate::request::Request;
-use hv_history::Kept;
+use crate::traced::{Trace, act_traced};
+use hv_history::{HostRefused, Kept};
 use hv_policy::{Action, Caller};
 use hv_script::{CutLine, FaultKind, action, admit, processor, read_boot};
 use hv_threads::act;
@@ -23,85 +31,98 @@ use std::alloc::Global;
 #[derive(Drop)]
 pub(crate) struct Bench {
     pub(crate) kept: Kept<Global>,
+    // In JSON, the objects of the events of the last line that has some.
+    pub(crate) trace: Trace,
     // The processors that lines of the current phase named.
     callers: Vec<Caller>,
 }
 
 // Does what a line asks for, unless its bytes were lost. Before the boot line there is no machine.
+#[tactic(auto, using(crate::proofs::Tracing::untraced))]
 pub(crate) fn take_line(
     alloc: Global,
-    form: Form,
+    at: Place,
     bench: &mut Option<Bench>,
     line: &[u8],
     lost: Option<FaultKind>,
 ) -> Outcome
-    ensures { (before : Option Served) (bytes : List ℕ) → StandsFor bench.old before
+    ensures comes { (before : Option Served) (bytes : List ℕ) → StandsFor bench.old before
         → All (λ byte. byte ≢ 10) bytes → AreKept bytes line.now lost
-        → HasBecome before (meant form (read_of before) bytes) result bench.new }
+        → HasBecome before (meant (read_of before) bytes) result bench.new }
+    ensures traced { at.form ≡ Json → IsTracedIn (length (history_of (kept_in bench.old))) bench.new }
 {
     match lost {
         Some(kind) => outcome_of(Err(kind)),
-        None => outcome_of(do_line(alloc, form, bench, line)),
+        None => outcome_of(do_line(alloc, at, bench, line)),
     }
 }
 
 // Does what a line asks for.
+#[tactic(auto, using(crate::proofs::Tracing::untraced))]
 fn do_line(
     alloc: Global,
-    form: Form,
+    at: Place,
     bench: &mut Option<Bench>,
     text: &[u8],
 ) -> Result<Outcome, FaultKind>
-    ensures { (before : Option Served) → StandsFor bench.old before → length text.now ≤ MOST
-        → HasTaken before (meant form (read_of before) (line_of text.now)) bench.new result }
+    ensures taken { (before : Option Served) → StandsFor bench.old before → length text.now ≤ MOST
+        → HasTaken before (meant (read_of before) (line_of text.now)) bench.new result }
+    ensures traced { at.form ≡ Json → IsTracedIn (length (history_of (kept_in bench.old))) bench.new }
 {
     let mut line = CutLine::new();
     line.cut(text)?;
-    do_words(alloc, form, bench, &line)
+    do_words(alloc, at, bench, &line)
 }
 
 // Does what the words of a line ask for.
+#[tactic(auto, using(crate::proofs::Tracing::untraced))]
 fn do_words(
     alloc: Global,
-    form: Form,
+    at: Place,
     bench: &mut Option<Bench>,
     line: &CutLine<'_>,
 ) -> Result<Outcome, FaultKind>
-    ensures { (before : Option Served) → StandsFor bench.old before
-        → HasTaken before (words_say form (read_of before) line.now) bench.new result }
+    ensures taken { (before : Option Served) → StandsFor bench.old before
+        → HasTaken before (words_say (read_of before) line.now) bench.new result }
+    ensures traced { at.form ≡ Json → IsTracedIn (length (history_of (kept_in bench.old))) bench.new }
 {
     if line.words() == 0 {
         return Ok(Outcome::Done);
     }
-    match Request::of(form, line) {
+    match Request::of(line) {
         Some(request) => request.read(bench.is_some(), line),
-        None => script_line(alloc, bench, line),
+        None => script_line(alloc, at, bench, line),
     }
 }
 
 // Handles a line of a script.
+#[tactic(auto, using(crate::proofs::Tracing::untraced))]
 fn script_line(
     alloc: Global,
+    at: Place,
     bench: &mut Option<Bench>,
     line: &CutLine<'_>,
 ) -> Result<Outcome, FaultKind>
-    ensures { (before : Option Served) → StandsFor bench.old before
+    ensures taken { (before : Option Served) → StandsFor bench.old before
         → HasTaken before (reads (read_words (read_of before) line.now)) bench.new result }
+    ensures traced { at.form ≡ Json → IsTracedIn (length (history_of (kept_in bench.old))) bench.new }
 {
     match bench {
         None => boot_line(alloc, bench, line),
-        Some(bench) => bench.later_line(alloc, line),
+        Some(bench) => bench.later_line(alloc, at, line),
     }
 }
 
 // Handles the first line, which must be a `boot` line.
+#[tactic(auto, using(crate::proofs::Tracing::untraced))]
 fn boot_line(
     alloc: Global,
     bench: &mut Option<Bench>,
     line: &CutLine<'_>,
 ) -> Result<Outcome, FaultKind>
     requires { bench.old ≡ None }
-    ensures { HasTaken None (reads (first_line line.now)) bench.new result }
+    ensures taken { HasTaken None (reads (first_line line.now)) bench.new result }
+    ensures traced { IsTracedIn (length (history_of (kept_in bench.old))) bench.new }
 {
     if !line.begins_with(b"boot".as_slice()) {
         return Err(FaultKind::NoBoot);
@@ -111,6 +132,7 @@ fn boot_line(
         Ok(kept) => {
             *bench = Some(Bench {
                 kept,
+                trace: Trace::new(alloc),
                 callers: Vec::new(alloc),
             });
             Ok(Outcome::Done)
@@ -120,10 +142,29 @@ fn boot_line(
 }
 
 impl Bench {
+    // Returns the objects of the events after the first `before`, each in a line. `None` if memory ran out.
+    pub(crate) fn objects(&self, before: usize) -> Option<&[u8]>
+        ensures { IsTracedIn before (Some self.now) → IfSome result (λ objects.
+            AreTraced before (Some self.now.kept) objects.now) }
+    {
+        if before < self.kept.history().len() {
+            self.trace.objects()
+        } else {
+            Some(b"")
+        }
+    }
+
     // Handles any line after the first.
-    fn later_line(&mut self, alloc: Global, line: &CutLine<'_>) -> Result<Outcome, FaultKind>
-        ensures { (served : Served) → IsBench self.old served
+    #[tactic(auto, using(crate::proofs::Tracing::untraced_same))]
+    fn later_line(
+        &mut self,
+        alloc: Global,
+        at: Place,
+        line: &CutLine<'_>,
+    ) -> Result<Outcome, FaultKind>
+        ensures taken { (served : Served) → IsBench self.old served
             → HasTaken (Some served) (reads (later_line served.read line.now)) (Some self.new) result }
+        ensures traced { at.form ≡ Json → IsTracedIn (length self.old.kept.history) (Some self.new) }
     {
         if line.begins_with(b"boot".as_slice()) {
             return Err(FaultKind::BootTwice);
@@ -131,13 +172,14 @@ impl Bench {
         if line.begins_with(b"phase".as_slice()) {
             return self.phase_line(line);
         }
-        self.processor_line(alloc, line)
+        self.processor_line(alloc, at, line)
     }
 
     // Handles a `phase` line.
     fn phase_line(&mut self, line: &CutLine<'_>) -> Result<Outcome, FaultKind>
-        ensures { (served : Served) → IsBench self.old served
+        ensures taken { (served : Served) → IsBench self.old served
             → HasTaken (Some served) (reads (phase_line served.read line.now)) (Some self.new) result }
+        ensures kept { self.new.kept ≡ self.old.kept }
     {
         if line.words() != 1 {
             return Err(FaultKind::Count);
@@ -147,24 +189,46 @@ impl Bench {
     }
 
     // Handles a line of a processor. It reads the whole line before it changes anything.
-    fn processor_line(&mut self, alloc: Global, line: &CutLine<'_>) -> Result<Outcome, FaultKind>
-        ensures { (served : Served) → IsBench self.old served
+    #[tactic(auto, using(crate::proofs::Tracing::untraced_same))]
+    fn processor_line(
+        &mut self,
+        alloc: Global,
+        at: Place,
+        line: &CutLine<'_>,
+    ) -> Result<Outcome, FaultKind>
+        ensures taken { (served : Served) → IsBench self.old served
             → HasTaken (Some served) (reads (processor_line served.read line.now)) (Some self.new) result }
+        ensures traced { at.form ≡ Json → IsTracedIn (length self.old.kept.history) (Some self.new) }
     {
         let by = processor(line.word(0))?;
         let action = action(&alloc, line)?;
         admit(&mut self.callers, by)?;
-        Ok(self.perform(by, action))
+        Ok(self.perform(at, by, action))
     }
 
     // Runs an action to its end, unless the host refuses it. No action has as many events as `u32::MAX`.
-    fn perform(&mut self, by: Caller, action: Action<Global>) -> Outcome
+    fn perform(&mut self, at: Place, by: Caller, action: Action<Global>) -> Outcome
         ensures acted { IsOutcomeOf by action u32.MAX self.old.kept self.new.kept result }
         ensures callers { self.new.callers.items ≡ self.old.callers.items }
+        ensures traced { at.form ≡ Json → IsTracedIn (length self.old.kept.history) (Some self.new) }
     {
-        match act(&mut self.kept, by, action, u32::MAX) {
-            Ok(()) => Outcome::Done,
-            Err(why) => Outcome::Host(why),
+        match at.form {
+            Form::Text => outcome_of_act(act(&mut self.kept, by, action, u32::MAX)),
+            Form::Json => {
+                let (kept, trace) = (&mut self.kept, &mut self.trace);
+                outcome_of_act(act_traced(kept, at.number, by, action, trace))
+            }
         }
+    }
+}
+
+// Returns the outcome of a line whose action was run.
+fn outcome_of_act(acted: Result<(), HostRefused>) -> Outcome
+    ensures { (by : CallerValue) (what : ActionValue GlobalValue) (most : ℕ) (old new : KeptValue GlobalValue)
+        → HasTried by what most old new acted → IsOutcomeOf by what most old new result }
+{
+    match acted {
+        Ok(()) => Outcome::Done,
+        Err(why) => Outcome::Host(why),
     }
 }

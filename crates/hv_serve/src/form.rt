@@ -8,3 +8,11 @@ pub enum Form {
     /// One line of JSON for each line.
     Json,
 }
+
+// Which line it is, and the form of its answer.
+#[derive(Clone, Copy)]
+pub(crate) struct Place {
+    pub(crate) form: Form,
+    // Lines count from 1.
+    pub(crate) number: u64,
+}

@@ -1,62 +1,42 @@
 // Writing the answer to a line in JSON.
-ghost use Rattle.std.specs.Prelude.{◌≡◌, ◌+◌, ◌≤◌, ◌<◌, ◌++◌, [], IfOk, OnOk, ℕ, List, codes, drop};
-ghost use Rattle.std.specs.Prelude.{length, if◌then◌else◌, option_map};
+ghost use Rattle.std.specs.Prelude.{◌≡◌, ◌+◌, ◌≤◌, ◌<◌, ◌++◌, [], OnOk, ℕ, List, codes, drop};
+ghost use Rattle.std.specs.Prelude.{length, if◌then◌else◌, map, option_map};
 ghost use Rattle.std.specs.Io.KnownBytes.{Appends};
 ghost use Rattle.hv_defs.specs.declared.sizes.TheConstants.{REPS_END};
 ghost use Rattle.hv_history.specs.History.{entry_by};
 ghost use Rattle.hv_policy.specs.Parts.{next_in, reply_of};
 ghost use Rattle.hv_text.specs.Audit.{entry_text};
-ghost use Rattle.hv_serve.specs.Bench.{HasAnswered, kept_in};
-ghost use Rattle.hv_serve.specs.Json.{all_escaped, escaped, events_value, fault_value};
+ghost use Rattle.hv_serve.specs.Bench.{kept_in};
+ghost use Rattle.hv_serve.specs.Json.{all_escaped, elements, escaped, events_value, fault_value, separated};
 ghost use Rattle.hv_serve.specs.Json.{object_text, shown_member, string_of, text_value};
 ghost use Rattle.hv_serve.specs.Session.{history_of};
-ghost use Rattle.hv_serve.specs.declared.form.Form.TheVariants.{Json};
 
 use crate::answer::{put_bytes, put_number};
 use crate::bench::Bench;
 use crate::outcome::Outcome;
-use crate::shown::take_shown;
 use hv_history::{EntryRef, Kept};
 use hv_run::Failure;
 use hv_text::{LINE, Scratch, audit_line};
 use std::alloc::Global;
 use std::io::Write;
 
-// Writes the object that answers a line. What it shows is built in memory first, since it stands after the
-// fault. Returns the outcome of the line, which is out of memory if there is no memory for what it shows.
-pub(crate) fn put_json<W: Write>(
-    alloc: Global,
-    out: &mut W,
-    bench: &Option<Bench>,
-    before: usize,
-    number: u64,
-    outcome: Outcome,
-) -> Result<Outcome, Failure>
-    ensures { IfOk result (λ told. HasAnswered Json number before outcome told (kept_in bench.now)
-        (W.contents out.old) (W.contents out.new)) }
-{
-    let (told, shown) = take_shown(alloc, bench, outcome);
-    match put_object(out, bench, before, number, told, &shown) {
-        Ok(()) => Ok(told),
-        Err(failure) => Err(failure),
-    }
-}
-
 // Writes the object that answers a line with this outcome.
-fn put_object<W: Write>(
+pub(crate) fn put_object<W: Write>(
     out: &mut W,
     bench: &Option<Bench>,
     before: usize,
     number: u64,
     outcome: Outcome,
+    objects: &[u8],
     shown: &Option<Vec<u8>>,
 ) -> Result<(), Failure>
     ensures { OnOk result (Appends (W.contents out.old) (W.contents out.new) (object_text number
-        (events_value (before + 1) (drop before (history_of (kept_in bench.now)))) outcome
+        (events_value (before + 1) (drop before (history_of (kept_in bench.now)))) objects.now outcome
         (option_map (λ text. text.items) shown.now))) }
 {
     put_number(out, b"{\"line\":", number, b",\"events\":[")?;
     put_events(out, bench, before)?;
+    put_trace(out, objects)?;
     put_bytes(out, b"],\"fault\":")?;
     put_why(out, outcome)?;
     put_shown(out, outcome, shown)?;
@@ -119,6 +99,31 @@ fn comma(first: bool) -> &'static str
     ensures { result.now ≡ (if first then [] else codes ",") }
 {
     if first { "" } else { "," }
+}
+
+// Writes the end of the events, and their objects, each of which stands in a line.
+fn put_trace<W: Write>(out: &mut W, objects: &[u8]) -> Result<(), Failure>
+    ensures { OnOk result (Appends (W.contents out.old) (W.contents out.new)
+        (codes "],\"trace\":[" ++ elements objects.now)) }
+{
+    put_bytes(out, b"],\"trace\":[")?;
+    put_separated(out, &objects[..objects.len().saturating_sub(1)])
+}
+
+fn put_separated<W: Write>(out: &mut W, text: &[u8]) -> Result<(), Failure>
+    ensures { OnOk result (Appends (W.contents out.old) (W.contents out.new) (map separated text.now)) }
+{
+    for at in 0..text.len() {
+        put_bytes(out, &[separated(text[at])])?;
+    }
+    Ok(())
+}
+
+// Returns a byte of an object, or a comma for the line feed behind one.
+fn separated(byte: u8) -> u8
+    ensures { result ≡ separated byte }
+{
+    if byte == b'\n' { b',' } else { byte }
 }
 
 // Writes why the line wasn't done, or `null`.

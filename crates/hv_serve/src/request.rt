@@ -4,10 +4,8 @@ ghost use Rattle.std.specs.Prelude.{is_some, length};
 ghost use Rattle.hv_script.specs.Script.{SoFar};
 ghost use Rattle.hv_script.specs.declared.fault.FaultKind.TheVariants.{Count};
 ghost use Rattle.hv_serve.specs.Bench.{AsksFor};
-ghost use Rattle.hv_serve.specs.Meant.{asked, request_in, request_line, request_of};
-ghost use Rattle.hv_serve.specs.declared.form.Form.TheVariants.{Json};
+ghost use Rattle.hv_serve.specs.Meant.{asked, request_line, request_of};
 
-use crate::form::Form;
 use crate::outcome::Outcome;
 use crate::peek::read_peek;
 use hv_script::{CutLine, FaultKind};
@@ -22,23 +20,13 @@ pub(crate) enum Request {
 }
 
 impl Request {
-    // Returns what a line asks for, or `None` if it is a line of a script. In text, it can ask for the table
-    // alone.
-    pub(crate) fn of(form: Form, line: &CutLine<'_>) -> Option<Request>
-        ensures { result ≡ request_of form line.now }
+    // Returns what a line asks for, or `None` if it is a line of a script.
+    pub(crate) fn of(line: &CutLine<'_>) -> Option<Request>
+        ensures { result ≡ request_of line.now }
     {
         if line.begins_with(b"table".as_slice()) {
             return Some(Request::Table);
         }
-        match form {
-            Form::Text => None,
-            Form::Json => Request::in_json(line),
-        }
-    }
-
-    fn in_json(line: &CutLine<'_>) -> Option<Request>
-        ensures { result ≡ request_in Json line.now }
-    {
         if line.begins_with(b"peek".as_slice()) {
             return Some(Request::Peek);
         }

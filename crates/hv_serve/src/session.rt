@@ -8,7 +8,7 @@ ghost use Rattle.hv_serve.specs.Turned.{HasFailed, HasTurned, is_silent};
 
 use crate::answer::{events_of, put_answer, put_end, put_greeting};
 use crate::bench::{Bench, take_line};
-use crate::form::Form;
+use crate::form::{Form, Place};
 use crate::input::{LineEnd, read_line};
 use hv_run::{Exit, Failure, tell};
 use std::alloc::Global;
@@ -90,7 +90,7 @@ fn serve_line<R: Read, W: Write>(
 {
     let end = read_line(reader, line)?;
     let before = events_of(bench);
-    let outcome = take_line(alloc, form, bench, line, end.lost);
+    let outcome = take_line(alloc, Place { form, number }, bench, line, end.lost);
     if is_silent(form, end, line) {
         return Ok(end.last);
     }

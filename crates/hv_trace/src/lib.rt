@@ -6,7 +6,8 @@
 //! refusal, and the effect: what changed, and whom it reached. `IsObject` of `specs/Trace.antt` fixes each
 //! byte of the text, except for the line's number, what the fields are, and the words of the reason. The
 //! fields are members in any case, and the words end no string, so that the text is an object of JSON.
-//! `docs/trace.schema.json` is the schema of an object. The form is this project's own.
+//! `docs/trace.schema.json` is the schema of an object. The form is this project's own. [`Object`] writes the
+//! object of one event.
 //!
 //! [`perfetto_text`] runs a script's lines in order, and writes the run in the Chrome trace event form, which
 //! ui.perfetto.dev and chrome://tracing open: a slice for each event in the lane of its processor, arrows
@@ -33,6 +34,7 @@ mod put;
 mod report;
 mod trace;
 
+pub use object::Object;
 pub use perfetto::perfetto_text;
 pub use report::report_text;
 pub use trace::trace_text;

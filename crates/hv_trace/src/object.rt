@@ -1,7 +1,8 @@
 // The object of an event.
 ghost use Rattle.std.specs.Prelude.{◌++◌, codes, OnOk};
 ghost use Rattle.std.specs.Io.KnownBytes.{Appends};
-ghost use Rattle.hv_trace.specs.Trace.{event_text, place_text};
+ghost use Rattle.hv_explain.specs.Written.{HasPut, entry_of};
+ghost use Rattle.hv_trace.specs.Trace.{event_text, place_text, traces};
 ghost use Rattle.hv_trace.specs.Effect.{effect_text};
 
 use crate::answer::put_reply;
@@ -20,12 +21,55 @@ use std::alloc::Global;
 use std::io;
 use std::io::Write;
 
+/// The room in which the object of an event is built.
+#[derive(Drop)]
+pub struct Object {
+    fields: Members,
+    reason: Words,
+}
+
+impl Object {
+    /// Creates room for one object at a time. It takes no memory.
+    pub fn new() -> Object {
+        Object {
+            fields: Members::new(),
+            reason: Words::new(),
+        }
+    }
+
+    /// Writes the object of the last event of a history, in a line.
+    ///
+    /// `number` counts events from 1, and `line` is the line that asks for the event, which is that of `by`
+    /// and `what`, with this reply and effect.
+    pub fn put<W: Write>(
+        &mut self,
+        kept: &Kept<Global>,
+        number: u64,
+        line: u64,
+        by: Caller,
+        what: &Action<Global>,
+        reply: &Reply,
+        effect: &Effect,
+        out: &mut W,
+    ) -> io::Result<()>
+        ensures { OnOk result (HasPut (traces number (entry_of by what.now reply.now) effect.now)
+            (W.contents out.old) (W.contents out.new)) }
+    {
+        self.fields.clear();
+        push_fields(&mut self.fields, what);
+        self.reason.clear();
+        push_refusal(&mut self.reason, kept, by, what, reply);
+        put_place(out, number, by, line)?;
+        let (fields, reason) = (self.fields.as_slice(), self.reason.as_slice());
+        put_event(out, what, reply, effect, fields, reason)
+    }
+}
+
 /// Writes an object for each event of a script.
 #[derive(Drop)]
 pub(crate) struct Tracer {
     lines: Lines,
-    fields: Members,
-    reason: Words,
+    object: Object,
 }
 
 impl Tracer {
@@ -33,8 +77,7 @@ impl Tracer {
     pub(crate) fn new(lines: Lines) -> Tracer {
         Tracer {
             lines,
-            fields: Members::new(),
-            reason: Words::new(),
+            object: Object::new(),
         }
     }
 }
@@ -55,13 +98,8 @@ impl Teller for Tracer {
         out: &mut W,
     ) -> io::Result<()> {
         let line = self.lines.take(by, reply);
-        self.fields.clear();
-        push_fields(&mut self.fields, what);
-        self.reason.clear();
-        push_refusal(&mut self.reason, kept, by, what, reply);
-        put_place(out, number, by, line)?;
-        let (fields, reason) = (self.fields.as_slice(), self.reason.as_slice());
-        put_event(out, what, reply, effect, fields, reason)
+        self.object
+            .put(kept, number, line, by, what, reply, effect, out)
     }
 }
 

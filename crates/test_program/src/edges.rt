@@ -73,13 +73,13 @@ const JSON_NONE: &str = r#"{"program":"hvpm","version":"0.1.0"}
 "#;
 
 const JSON_ONE: &str = r#"{"program":"hvpm","version":"0.1.0"}
-{"line":1,"events":[],"fault":null}
+{"line":1,"events":[],"trace":[],"fault":null}
 {"end":true,"events":0}
 "#;
 
 const JSON_TWO: &str = r#"{"program":"hvpm","version":"0.1.0"}
-{"line":1,"events":[],"fault":null}
-{"line":2,"events":[],"fault":null}
+{"line":1,"events":[],"trace":[],"fault":null}
+{"line":2,"events":[],"trace":[],"fault":null}
 {"end":true,"events":0}
 "#;
 

@@ -193,6 +193,24 @@ fault: line 3: history full
     assert_served(&rt, rt.alloc(), &lines, "events 3\n");
 }
 
+// Looks and explanations have a line each, which says so if there is nothing to show.
+#[test]
+fn looks_and_explanations(rt: HostRuntime) {
+    let lines = [
+        ("explain", "fault: line 1: no boot\n"),
+        ("peek 1.0 pending", "fault: line 2: no boot\n"),
+        (BOOT, ""),
+        ("explain", "none\n"),
+        ("peek 1.0 rdmsr 0x40000092", "0000010000000000\n"),
+        ("peek 1.0 slot 16", "none\n"),
+        ("peek 1.0 slot x", "fault: line 7: bad number\n"),
+        ("explain 1", "fault: line 8: word count\n"),
+        ("1.0 interrupt", "1 1.0 interrupt ok 00\n"),
+        ("explain", "1 1.0 take an interrupt: ok, no vector\n"),
+    ];
+    assert_served(&rt, rt.alloc(), &lines, "events 1\n");
+}
+
 // A session without a boot line has no events.
 #[test]
 fn no_boot(rt: HostRuntime) {

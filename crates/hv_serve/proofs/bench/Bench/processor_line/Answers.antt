@@ -5,20 +5,20 @@ use Rattle.hv_script.specs.Line.{processor_of}
 use Rattle.hv_serve.proofs.BenchSteps.{bad_action, bad_processor, no_room, performed, still}
 use Rattle.hv_serve.proofs.bench.Bench.processor_line.Goals as goal
 
-pub returns-in_err-by : goal.returns-in_err-by
-returns-in_err-by c =
+pub returns-in_err-by-clause-taken : goal.returns-in_err-by-clause-taken
+returns-in_err-by-clause-taken c =
     let p = err_from_is_err_and c.from_residual.result c.from_residual.ensures.1 in
     let words = c.args.line.now in
     rw (p.1, p.2) (λ served is. (is, λ _. bad_processor served.read words _ (ap processor_of (sym c.word.ensures) ∙ sym c.in_err-by.ensures)))
 
-pub returns-in_err-action : goal.returns-in_err-action
-returns-in_err-action c =
+pub returns-in_err-action-clause-taken : goal.returns-in_err-action-clause-taken
+returns-in_err-action-clause-taken c =
     let p = err_from_is_err_and c.from_residual-in_err-action.result c.from_residual-in_err-action.ensures.1 in
     let words = c.args.line.now in
     rw (p.1, p.2) (λ served is. (is, λ apart. bad_action served.read words c.in_ok-by.by _ (ap processor_of (sym c.word.ensures) ∙ sym c.in_ok-by.ensures) (c.in_err-action.ensures apart)))
 
-pub returns-in_err-admit : goal.returns-in_err-admit
-returns-in_err-admit c =
+pub returns-in_err-admit-clause-taken : goal.returns-in_err-admit-clause-taken
+returns-in_err-admit-clause-taken c =
     let p = err_from_is_err_and c.from_residual-in_err-admit.result c.from_residual-in_err-admit.ensures.1 in
     let words = c.args.line.now in
     let refused = c.in_err-admit.ensures in
@@ -29,8 +29,8 @@ returns-in_err-admit c =
           ∙ ap Err (sym (refused.many apart).0),
     ))
 
-pub returns : goal.returns
-returns c =
+pub returns-clause-taken : goal.returns-clause-taken
+returns-clause-taken c =
     let words = c.args.line.now in
     let by = c.in_ok-by.by in
     let what = c.in_ok-action.action in

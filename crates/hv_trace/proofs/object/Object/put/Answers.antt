@@ -1,6 +1,6 @@
 use Rattle.std.proofs.Common.{subst, sym}
 use Rattle.hv_trace.proofs.WrittenObject.{object_put}
-use Rattle.hv_trace.proofs.object.TracerTeller.tell.Goals as goal
+use Rattle.hv_trace.proofs.object.Object.put.Goals as goal
 use Rattle.hv_trace.specs.Members.{AreMembers}
 use Rattle.hv_words.specs.Words.{IsQuotable}
 
