@@ -3,13 +3,13 @@
  *
  *     pages [MESSAGES FLAGS]
  *
- * First come cases, one after another. Then a root and a guest's two processors run as threads over one
- * machine behind one lock and send each other MESSAGES messages and FLAGS event flags in all, 40,000 of each
- * if left out. A thread reads and writes its own two pages as a guest does, takes vectors that others inject,
- * and exits for posts, signals and EOM alone. None of the messages and flags may be lost or doubled, the
- * messages of a SINT come in the order of their posts, and no thread may wait for good: a sender doesn't go
- * on before the receiver has all of its batch. Compile it with -fsanitize=thread. What is wrong goes to
- * standard error, and the status is then 1.
+ * First come cases, one after another; guests.h has more. Then a root and a guest's two processors run as
+ * threads over one machine behind one lock and send each other MESSAGES messages and FLAGS event flags in all,
+ * 40,000 of each if left out. A thread reads and writes its own two pages as a guest does, takes vectors that
+ * others inject, and exits for posts, signals and EOM alone. None of the messages and flags may be lost or
+ * doubled, the messages of a SINT come in the order of their posts, and no thread may wait for good: a sender
+ * doesn't go on before the receiver has all of its batch. Compile it with -fsanitize=thread. What is wrong goes
+ * to standard error, and the status is then 1.
  */
 #include "hvpm_pages.h"
 
@@ -327,46 +327,6 @@ static void message_cases(void) {
         end_message(self);
     }
     holds("each clearing is told", self->rooms == rooms + 8);
-    holds("two more", post(&links[0]) && post(&links[0]));
-    write_page(self, 0x40000083, PAGE * 3);
-    holds("no page", self->pages.messages == NULL && self->pages.shown == 0);
-    memset(slot_of(self, 0), 0xFF, PAGE);
-    write_page(self, 0x40000083, PAGE * 3 | 1);
-    holds("a page begins with what is shown, and is zero else",
-          slot_of(self, 0)->type == 0 && slot_of(self, 15)->payload[239] == 0);
-    gets("the first of two, in a new page", self, 2, true);
-    write_page(self, 0x40000083, PAGE * 3 | 3);
-    holds("one that stays isn't written", slot_of(self, 2)->type == 0);
-    write_page(self, 0x40000083, PAGE * 4 | 1);
-    holds("what was let go isn't shown again elsewhere", memory[1][1][2 * 256] == 0);
-    write_page(self, 0x40000083, PAGE * 3 | 1);
-    end_message(self);
-    gets("the second of two", self, 2, false);
-    look_first();
-}
-
-static void flag_cases(void) {
-    struct processor *self = &processors[1];
-    uint8_t *flags = flags_of(self);
-    memset(memory[1][1], 0, PAGE);
-    write_page(self, 0x40000082, PAGE * 4 | 1);
-    flags[0] = 0x80;
-    for (uint32_t i = 0; i < 2; i++) {
-        signal_flag(&links[5], 4);
-        holds("a flag goes over, and others stay", flags[0] == 0x90);
-        holds("each signal raises anew", take_vector(self) == vector_of(FLAG_SINT));
-    }
-    write_page(self, 0x40000082, PAGE * 6 | 1);
-    holds("flags move along", memory[2][1][256 * FLAG_SINT] == 0x90);
-    write_page(self, 0x40000082, PAGE * 400 | 1);
-    holds("an address that isn't the guest's", self->pages.flags == NULL);
-    signal_flag(&links[5], 9);
-    holds("it raises", take_vector(self) == vector_of(FLAG_SINT));
-    flags[0] = flags[1] = 0x40;
-    write_page(self, 0x40000082, PAGE * 4 | 1);
-    holds("what wasn't taken is there, and what was signalled meanwhile", flags[0] == 0x90 && flags[1] == 2);
-    signal_flag(&links[5], 9);
-    holds("and raises anew", take_vector(self) == vector_of(FLAG_SINT));
 }
 
 /*
@@ -378,7 +338,8 @@ static void all_flags_cases(void) {
     const hvpm_connection connection = {1, 20, 2, 20, HVPM_PORT_EVENTS};
     const struct link link = {20, 0, 1, HVPM_PORT_EVENTS, ALL_FLAGS_SINT, 0, ALL_FLAGS};
     struct processor *self = &processors[1];
-    uint8_t *flags = memory[1][1] + 256 * ALL_FLAGS_SINT, wanted[256] = {0};
+    uint8_t *flags = memory[1][1] + 256 * ALL_FLAGS_SINT, wanted[256] = {0}, seen[256];
+    static const uint8_t none[256];
     hvpm_reply reply;
     served("a port", hvpm_create_port(&machine, root, &port, &reply, NULL, 0), &reply);
     served("a connection", hvpm_connect_port(&machine, root, &connection, &reply, NULL, 0), &reply);
@@ -392,34 +353,15 @@ static void all_flags_cases(void) {
         wanted[flag / 8] |= (uint8_t)(1u << flag % 8);
         holds("each flag has its bit", memcmp(flags, wanted, sizeof wanted) == 0);
         holds("each vector is taken", take_vector(self) == vector && take_vector(self) == 0);
+        taken(hvpm_peek_flags(&machine, self->pages.of, ALL_FLAGS_SINT, seen));
+        holds("the library keeps none", memcmp(seen, none, sizeof seen) == 0);
     }
-}
-
-static void processor_cases(void) {
-    hvpm_reply reply;
-    struct processor *self = &processors[2], *other = &processors[1];
-    holds("a post", post(&links[1]));
-    served("a deletion", hvpm_delete_vp(&machine, root, 2, 1, &reply, NULL, 0), &reply);
-    settle(&reply.effect);
-    holds("one that is gone has no pages",
-          !self->pages.messages && !self->pages.flags && self->pages.shown == 0);
-    holds("and its messages make room", self->rooms == 1);
-    holds("the other keeps its pages", other->pages.messages && other->pages.flags);
-    served("it is made again", hvpm_create_vp(&machine, root, 2, 1, &reply, NULL, 0), &reply);
-    settle(&reply.effect);
-    holds("one that is new has none", !self->pages.messages && !self->pages.flags);
-    served("an end", hvpm_finalize_partition(&machine, root, 2, &reply, NULL, 0), &reply);
-    settle(&reply.effect);
-    holds("a partition that ended has none", !other->pages.messages && !other->pages.flags);
-    holds("another has its own", processors[0].pages.messages && processors[0].pages.flags);
 }
 
 static void cases(void) {
     set_up();
     message_cases();
-    flag_cases();
     all_flags_cases();
-    processor_cases();
     all_are_recorded();
     hvpm_destroy(&machine);
 }

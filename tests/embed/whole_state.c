@@ -4,13 +4,15 @@
  * Each buffer that the library gets ends where a page begins that nobody may touch. In each event one of its
  * blocks of memory after another is refused first. At the end no block is left.
  *
- *     whole_state SEED EVENTS
+ *     whole_state SEED EVENTS [pages]
+ *
+ * With the third word each processor has its pages, too, in a guest's memory (guests.h).
  *
  * It is linked with --wrap for malloc, realloc and free. What is wrong first goes to standard error, with the
  * seed and the event's number, and the status is then 1.
  */
 #define _GNU_SOURCE
-#include "changes.h"
+#include "guests.h"
 
 /* ---- What was tried ---- */
 
@@ -52,6 +54,11 @@ static bool chance(uint64_t one_in) {
     return draw(one_in) == 0;
 }
 
+/* One of the four SINTs that a run has most to do with. */
+static uint32_t sint_at(uint64_t i) {
+    return (uint32_t)((4 * seed + i) % 16);
+}
+
 /* A processor, mostly one that is there, and often the first, which has connections. */
 static hvpm_caller some_vp(void) {
     const hvpm_caller none = {draw(9), (uint32_t)draw(4)};
@@ -75,7 +82,7 @@ static uint32_t some_index(void) {
 
 static uint64_t some_value(uint32_t msr) {
     static const uint64_t vectors[] = {0x10, 0x30, 0x31, 0x7F, 0x80, 0xFF, 0x10030, 0x10000, 0x20041, 3};
-    if (msr == SCONTROL || msr == SIMP || msr == SIEFP) return chance(6) ? 0 : 0x1001;
+    if (msr == SCONTROL || msr == SIMP || msr == SIEFP) return chance(6) ? 0 : 0x1001 + 0x1000 * draw(4);
     return vectors[draw(10)];
 }
 
@@ -109,7 +116,7 @@ static void draw_port(call *to, hvpm_caller by) {
     put(to, draw(LINKS - 1), 8);
     put(to, was_state.partition[draw(was_state.partitions)].id, 8);
     put(to, is_events ? 2 : 1, 8);
-    put(to, draw(4), 4);
+    put(to, sint_at(draw(4)), 4);
     put(to, chance(3) ? HVPM_ANY_VP : some_index(), 4);
     put(to, base, 2);
     put(to, 1 + draw(2048 - base), 2);
@@ -177,14 +184,15 @@ static void draw_mask(call *to, hvpm_caller by) {
 static void draw_post(call *to, hvpm_caller by) {
     const uint64_t size = draw(3) == 0 ? 240 : draw(20);
     put(to, some_connection(by, HVPM_PORT_MESSAGES), 8);
-    put(to, 1 + draw(5), 4);
+    put(to, 1 + machine->events % 0x7FFFFFFF, 4);
     put(to, size, 4);
     for (uint64_t i = 0; i < size; i++) put(to, draw(256), 1);
 }
 
-/* Draws a call. */
+/* Draws a call. Where there are pages, half of them post and signal. */
 static void draw_call(call *to, hvpm_caller by) {
-    const uint16_t code = some_codes[draw(sizeof some_codes / sizeof *some_codes)];
+    const uint16_t any = some_codes[draw(sizeof some_codes / sizeof *some_codes)],
+                   code = !has_guests || chance(2) ? any : chance(3) ? 0x5D : 0x5C;
     const bool is_rep = code == 0x48 || code == 0x49 || code == 0x50 || code == 0x51;
     const uint64_t count = is_rep ? 1 + draw(4) : 0, start = is_rep && chance(5) ? draw(count) : 0;
     to->registers = (hvpm_registers){start << 48 | count << 32 | code, 8 * draw(16), 8 * draw(16)};
@@ -216,7 +224,7 @@ static access draw_access(hvpm_caller by) {
     static const enum hvpm_access some[] = {HVPM_READ_MSR, HVPM_WRITE_MSR, HVPM_WRITE_MSR, HVPM_WRITE_MSR,
                                             HVPM_READ_SLOT, HVPM_CLEAR_SLOT, HVPM_CLEAR_SLOT, HVPM_READ_FLAGS,
                                             HVPM_CLEAR_FLAG, HVPM_CLEAR_FLAG, HVPM_TAKE_INTERRUPT};
-    access it = {.kind = some[draw(11)], .number = (uint32_t)draw(5)};
+    access it = {.kind = some[draw(11)], .number = sint_at(draw(5))};
     if (it.kind == HVPM_READ_MSR || it.kind == HVPM_WRITE_MSR) {
         it.number = chance(20) ? 0x40000001 : some_msr();
         it.value = some_value(it.number);
@@ -278,9 +286,11 @@ static void make_event(hvpm_caller by, const call *drawn_call, access it) {
 /* Takes an event, a call or an access, and compares what looks show with its effect. */
 static void take(hvpm_caller by, const call *called, access it) {
     taken what = {.by = by};
+    const uint16_t code = called ? (uint16_t)called->registers.rcx : 0;
+    guests_before(code == 0x51 || (!called && it.kind == HVPM_WRITE_MSR && it.number == EOM), code == 0x5C);
     make_event(by, called, it);
     if (called) {
-        what.code = (uint16_t)called->registers.rcx;
+        what.code = code;
         what.is_read = what.code == 0x44 || what.code == 0x46 || what.code == 0x47 || what.code == 0x4A ||
                        what.code == 0x50;
         memcpy(&what.connection, called->block, 4);
@@ -293,6 +303,7 @@ static void take(hvpm_caller by, const call *called, access it) {
     look(&is_state);
     compare(&was_state, &is_state, &what);
     note();
+    guests_after();
     memcpy(&was_state, &is_state, sizeof was_state);
 }
 
@@ -320,19 +331,19 @@ static call *begin(uint64_t rcx) {
     return &it;
 }
 
-/* A processor takes messages and flags, and its SINTs 0 to 3 raise vectors. */
+/* A processor takes messages and flags, and four of its SINTs raise vectors. */
 static void enable(hvpm_caller of) {
     static const uint32_t registers[] = {SCONTROL, SIMP, SIEFP};
     for (size_t i = 0; i < 3; i++) take(of, NULL, (access){HVPM_WRITE_MSR, registers[i], 1});
-    for (uint32_t sint = 0; sint < 4; sint++)
-        take(of, NULL, (access){HVPM_WRITE_MSR, SINT_0 + sint, 0x30 + 0x41 * sint});
+    for (uint32_t i = 0; i < 4; i++)
+        take(of, NULL, (access){HVPM_WRITE_MSR, SINT_0 + sint_at(i), 0x30 + 0x41 * i});
 }
 
 /* A port of a partition for the root, and the root's connection of that id. */
-static void link(uint64_t of, uint64_t id, uint64_t type, uint64_t sint, uint64_t vp) {
+static void link(uint64_t of, uint64_t id, uint64_t type, uint64_t i, uint64_t vp) {
     call *it = begin(0x95);
-    put(it, of, 8), put(it, id, 8), put(it, 1, 8), put(it, type, 8), put(it, sint, 4), put(it, vp, 4);
-    put(it, 1 + draw(1000), 2), put(it, 6, 2), put(it, 0, 4);
+    put(it, of, 8), put(it, id, 8), put(it, 1, 8), put(it, type, 8), put(it, sint_at(i), 4), put(it, vp, 4);
+    put(it, 1 + draw(2040), 2), put(it, 6, 2), put(it, 0, 4);
     take_call(root, it);
     it = begin(0x96);
     put(it, 1, 8), put(it, id, 8), put(it, of, 8), put(it, id, 8), put(it, type, 8), put(it, 0, 8);
@@ -390,6 +401,7 @@ static void boot(void) {
     must(status == HVPM_STATUS_OK, "another status");
     memset(&was_state, 0, sizeof was_state), memset(&is_state, 0, sizeof is_state);
     look(&was_state);
+    begin_guests();
     settle();
 }
 
@@ -407,8 +419,9 @@ static bool is_used(void) {
 }
 
 int main(int argc, char **argv) {
-    if (argc != 3) {
-        fputs("usage: whole_state SEED EVENTS\n", stderr);
+    has_guests = argc == 4 && strcmp(argv[3], "pages") == 0;
+    if (argc != 3 && !has_guests) {
+        fputs("usage: whole_state SEED EVENTS [pages]\n", stderr);
         return 2;
     }
     seed = strtoull(argv[1], NULL, 10);
@@ -419,11 +432,12 @@ int main(int argc, char **argv) {
     const uint64_t events = strtoull(argv[2], NULL, 10);
     for (number = 1; number <= events; number++) {
         take_random();
-        if (!is_used() && number % 150 != 0) continue;
+        if (!is_used() && number % (has_guests ? 1000 : 150) != 0) continue;
         destroy();
         boot();
     }
     destroy();
     tell();
+    if (has_guests) tell_guests();
     return 0;
 }

@@ -233,8 +233,8 @@ def run_serial(text, has_table):
 
 
 class Answer(NamedTuple):
-    """What a line of a session is answered: the lines of its events, then its fault or the table's lines, or
-    with --json what a look shows."""
+    """What a line of a session is answered: the lines of its events, then its fault, the table's lines, or what
+    a look shows."""
 
     events: list = []
     fault: Optional[str] = None
@@ -242,7 +242,7 @@ class Answer(NamedTuple):
     peek: tuple = ()
 
 
-def answers(text, is_json=False):
+def answers(text):
     """What a session answers to each line, and its number of events. After a last line feed comes an empty
     line."""
     reader, run, out = Reader(), None, []
@@ -251,7 +251,7 @@ def answers(text, is_json=False):
         found = ("table",) if words[:1] == ["table"] else reader.read(line)
         if found == ("table",):
             found = table_fault(line, words, run) or found
-        if is_json and words[:1] == ["peek"]:
+        if words[:1] == ["peek"]:
             found = look(line, words, run)
         answer = Answer()
         if isinstance(found, str):
@@ -279,12 +279,34 @@ def serve(text):
     for at, answer in enumerate(told, 1):
         out += answer.events
         out += [f"fault: line {at}: {answer.fault}"] if answer.fault else answer.table or []
+        out += [shown or "none" for shown in answer.peek]
     return Told(joined([*out, f"events {events}"]), "", 0)
 
 
+def traced(at, event):
+    """The object of an event that line `at` asks for, with the members that its line of the audit has."""
+    number, vp, *words = event.split(" ")
+    is_refused = "denied" in words or "fault" in words
+    rule, output = (words[-1], "") if is_refused else (None, words[-1].strip("-"))
+    return {"event": int(number), "vp": vp, "line": at, "rule": rule, "output": output}
+
+
+def shortened(out):
+    """What `serve --json` told, with only these members in the objects of events."""
+    lines = []
+    for line in out.splitlines():
+        answer = json.loads(line)
+        if json.dumps(answer, separators=(",", ":")) != line:
+            return out
+        for at, event in enumerate(answer.get("trace", ())):
+            answer["trace"][at] = {name: event[name] for name in ("event", "vp", "line", "rule", "output")}
+        lines.append(json.dumps(answer, separators=(",", ":")))
+    return joined(lines)
+
+
 def serve_json(text):
-    """What `serve --json` tells of them."""
-    told, events = answers(text, is_json=True)
+    """What `serve --json` tells of them, as `shortened` gives it."""
+    told, events = answers(text)
     if not text or text.endswith("\n"):
         told.pop()
     out = [{"program": "hvpm", "version": "0.1.0"}]
@@ -292,7 +314,8 @@ def serve_json(text):
         shown = {} if answer.table is None else {"table": joined(answer.table)}
         if answer.peek:
             shown["peek"] = answer.peek[0]
-        out.append({"line": at, "events": answer.events, "fault": answer.fault, **shown})
+        trace = [traced(at, event) for event in answer.events]
+        out.append({"line": at, "events": answer.events, "trace": trace, "fault": answer.fault, **shown})
     out.append({"end": True, "events": events})
     return Told(joined(json.dumps(line, separators=(",", ":")) for line in out), "", 0)
 
