@@ -665,8 +665,8 @@ class Machine:
 
     def page_after(self, partition: int, previous: Optional[int] = None) -> Optional[PageRun]:
         """Returns the longest run of pages that begins at a partition's lowest page above `previous`, or at its
-        lowest of all. None if there is no such page or partition. Takes time linear in the number of pages from
-        `previous` to the end of the run."""
+        lowest of all. None if there is no such page or partition. Takes time logarithmic in the number of the
+        partition's runs."""
         raw = _raw.hvpm_page_run()
         if not self._after("page_after", raw, partition, previous):
             return None

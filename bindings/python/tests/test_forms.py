@@ -38,6 +38,7 @@ class Forms(unittest.TestCase):
         rcx, block = forms.frame("HvDepositMemory", (7, 8), None, {"PartitionId": 2})
         self.assertEqual((rcx, len(block), block[8], block[16]), (0x48 | 2 << 32, 24, 7, 8))
         self.assertEqual(forms.frame("HvWithdrawMemory", (), 3, {"PartitionId": 2})[0], 0x49 | 3 << 32)
+        self.assertEqual(forms.frame("HvDepositMemory", (7,), 0, {"PartitionId": 2})[0], 0x48)
 
     def test_lines_that_names_do_not_say_stay(self):
         for line in (
@@ -48,6 +49,9 @@ class Forms(unittest.TestCase):
             "1.0 call 0x10046 0 0 -",  # no fast form
             "1.0 call 0x1005d 1 1 -",  # a byte in R8
             "1.0 call 0x99 0 0 -",
+            "1.0 call 0 0 0 -",
+            f"1.0 call 0x100000051 0 0 {'01' * 12}00000000{'02' * 4}01",  # a byte behind a register's name
+            f"1.0 call 0x100000051 0 0 {'01' * 12}00000000{'02' * 4}{'00' * 20}01",  # bit 64 of a value
             "1.0 rdmsr 0x40000000",
             "1.0 slot 2\n",
         ):
@@ -56,6 +60,11 @@ class Forms(unittest.TestCase):
         self.assertEqual(forms.by_names("1.0 rdmsr 0x40000084"), "1.0 read EOM")
         line = "1.0 call 0x1000300000049 0x1000 0x2000 ffffffffffffffff"
         named = "1.0 HvWithdrawMemory PartitionId=self reps=3 start=1 input=0x1000 output=0x2000"
+        self.assertEqual(forms.by_names(line), named)
+        line, named = "1.0 call 0x1ff020000000049 0 0 01", "1.0 HvWithdrawMemory PartitionId=1 reps=512 start=511"
+        self.assertEqual(forms.by_names(line), named)
+        line, named = "1.0 call 0x100000051 0 0 ", "1.0 HvSetVpRegisters PartitionId=1 VpIndex=0 RAX=0x8000000000000000"
+        line += f"01{'00' * 15}000002{'00' * 13}{'00' * 7}80"
         self.assertEqual(forms.by_names(line), named)
 
     @unittest.skipUnless(POLICY.exists(), "docs/POLICY.md isn't there")

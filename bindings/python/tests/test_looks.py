@@ -4,7 +4,7 @@ import unittest
 import hvpm
 from hvpm import Connection, Life, Partition, Port, PortType
 
-from .shared import MASK, ROOT, SLOT, boot, with_message_and_flag
+from .shared import MASK, ROOT, SLOT, boot, with_child, with_message_and_flag
 
 NOBODY = (1, 1)
 
@@ -41,12 +41,22 @@ class Looks(unittest.TestCase):
         connection = Connection(partition=1, id=2, port_partition=1, port=2, type=PortType.MESSAGES)
         self.assertEqual((machine.peek_connection(1, 2), machine.peek_connection(1, 4)), (connection, None))
 
+    def test_links_of_two_partitions_show_both(self):
+        with with_child() as machine:
+            machine.create_port(ROOT, partition=1, id=9, peer=2, sint=4).expect()
+            machine.connect_port(ROOT, partition=2, id=8, port_partition=1, port=9).expect()
+            port = Port(1, 9, 2, PortType.MESSAGES, sint=4, vp=hvpm.ANY_VP, base_flag=0, flag_count=0)
+            self.assertEqual((machine.peek_port(1, 9), machine.peek_port(2, 5).vp), (port, 0))
+            connection = Connection(2, 8, port_partition=1, port=9, type=PortType.MESSAGES)
+            self.assertEqual(machine.peek_connection(2, 8), connection)
+
     def test_children_and_owners_are_found(self):
         machine = boot()
         self.assertIsNone(machine.child_after(1))
         machine.create_partition(ROOT)
         machine.create_partition(ROOT)
         self.assertEqual([machine.child_after(1, previous) for previous in (0, 2, 3)], [2, 3, None])
+        self.assertEqual(machine.child_after(1), 2)
         self.assertIsNone(machine.child_after(4))
         self.assertEqual((machine.page_owner(31), machine.page_owner(32)), (1, None))
 

@@ -72,7 +72,8 @@ class Guests(unittest.TestCase):
 
     def test_a_page_is_aligned_and_writable(self):
         pages = Pages(GUEST)
-        for buffer in (memoryview(self.memory)[8:4104], bytes(4096), bytearray(4095)):
+        halfway = memoryview(self.memory)[2048:6144]
+        for buffer in (memoryview(self.memory)[8:4104], halfway, bytes(4096), bytearray(4095)):
             with self.assertRaises((ValueError, TypeError)):
                 pages.move(self.machine, buffer, None)
 
@@ -86,6 +87,14 @@ class Guests(unittest.TestCase):
             memory.close()
         pages.move(self.machine, None, None)
         memory.close()
+
+    def test_the_pages_before_an_error_are_kept_too(self):
+        first, second, pages = mmap.mmap(-1, 4096), mmap.mmap(-1, 4096), Pages(GUEST)
+        pages.move(self.machine, first, None)
+        self.machine.delete_vp(ROOT, 2, 0).expect()
+        self.assertRaises(Error, pages.move, self.machine, second, None)
+        for memory in (first, second):
+            self.assertRaises(BufferError, memory.close)
 
     def test_a_processor_that_goes_loses_its_pages(self):
         machine, pages, others = self.machine, self.pages(), Pages((1, 0))

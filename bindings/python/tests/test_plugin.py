@@ -116,6 +116,25 @@ class Plugin(unittest.TestCase):
         self.assertEqual(further.splitlines()[0], f"{PROGRAM} asm {file} >run.hv")
         self.assertIn(f"{PROGRAM} explain run.hv ", further)
 
+    def test_the_last_six_events_are_shown(self):
+        plugin = load()
+        fixture = machines(plugin)
+        machine = next(fixture)
+        for vp in range(9):
+            machine.create_vp(ROOT, 5, vp)
+        item = types.SimpleNamespace(config=types.SimpleNamespace(cache=None), nodeid="t.py::x")
+        words = dict(plugin._sections(item, machine))["hvpm: the last events"]
+        self.assertEqual([int(line.split()[0]) for line in words.splitlines()], [4, 5, 6, 7, 8, 9])
+
+    def test_a_file_is_named_for_the_end_of_a_long_name(self):
+        with tempfile.TemporaryDirectory() as folder:
+            cache = types.SimpleNamespace(mkdir=lambda _: folder)
+            item = types.SimpleNamespace(config=types.SimpleNamespace(cache=cache), nodeid=300 * "a" + "::case_7")
+            fixture = machines(load())
+            load()._sections(item, next(fixture))
+            (file,) = Path(folder).iterdir()
+            self.assertTrue(file.name.endswith("a_case_7.hva") and len(file.name) == 204, file.name)
+
     def test_a_report_without_cache_or_program_has_the_script(self):
         told = self.report(None, "/nowhere")
         self.assertEqual(told["hvpm: the script"], SCRIPT)

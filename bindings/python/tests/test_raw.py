@@ -84,6 +84,11 @@ class Finding(unittest.TestCase):
                 with self.assertRaisesRegex(ImportError, "HVPM_LIB isn't set.*LD_LIBRARY_PATH"):
                     _library._open()
 
+    def test_versions_have_a_series(self):
+        """A minor version of 0 is one of its own, and a major version from 1 on."""
+        series = [_library._series(version) for version in (0, 99, 100, 199, 200, 10000, 10203, 19999, 20000)]
+        self.assertEqual(series, [0, 0, 1, 1, 2, 100, 100, 100, 200])
+
     def test_a_library_of_another_version_is_refused(self):
         for wanted, is_refused in ((0, True), (99, True), (100, False), (101, True), (200, True), (10100, True)):
             with unittest.mock.patch.object(_library._raw, "HVPM_VERSION", wanted):

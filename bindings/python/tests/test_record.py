@@ -53,6 +53,8 @@ class Records(unittest.TestCase):
             machine.take_interrupt(ROOT)
             machine.withdraw_memory(ROOT, 1, count=2, start=1)
             self.assertIn("\n# The record ends here: ", machine.script())
+            words = machine.explain().splitlines(True)
+            self.assertEqual([machine.explain(last) for last in (0, 1, 9)], ["", words[-1], "".join(words)])
             record = machine.take_record()
         self.assertEqual((record.is_cut, record.script.count("\n"), record.audit.count("\n")), (True, 2, 1))
 
@@ -73,6 +75,7 @@ class Records(unittest.TestCase):
             self.assertEqual(machine.script(), named)
             self.assertEqual(machine.explain(2), "".join(words.splitlines(True)[-2:]))
             self.assertEqual(machine.explain(0), "")
+            self.assertEqual(machine.explain(machine.events + 1), words)
             record, events = machine.take_record(), machine.events
             self.assertRaisesRegex(ValueError, "beginning was taken", machine.explain)
         lines = named.splitlines()

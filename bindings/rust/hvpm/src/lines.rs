@@ -140,3 +140,13 @@ pub fn access_line(by: Caller, access: Access) -> Result<String, Status> {
     // SAFETY: as in `hypercall_line`.
     text(|at, size, len| unsafe { sys::hvpm_access_line(by.raw(), access, number, value, at, size, len) })
 }
+
+#[cfg(test)]
+mod tests {
+    use super::{Status, sys, text};
+
+    #[test]
+    fn a_text_may_lack_memory() {
+        assert_eq!(text(|_, _, _| sys::HVPM_STATUS_MEMORY), Err(Status::Memory));
+    }
+}

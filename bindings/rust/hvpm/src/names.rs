@@ -25,17 +25,17 @@ pub fn version_number() -> u32 {
     unsafe { sys::hvpm_version_number() }
 }
 
-/// Whether a library of this version has the functions and structs that the crate declares.
-fn fits(library: u32) -> bool {
+/// Whether a library of this version has the functions and structs of another one, which the crate declares.
+fn fits(library: u32, declared: u32) -> bool {
     let series = |version: u32| if version < 10_000 { version / 100 } else { version / 10_000 * 100 };
-    series(library) == series(sys::HVPM_VERSION) && library >= sys::HVPM_VERSION
+    series(library) == series(declared) && library >= declared
 }
 
 /// Stops a program that was given another library than the crate declares.
 pub(crate) fn check_version() {
     let library = version_number();
     assert!(
-        fits(library),
+        fits(library, sys::HVPM_VERSION),
         "the library hvpm has version {}, and the crate needs {}",
         library,
         sys::HVPM_VERSION
@@ -82,12 +82,14 @@ impl fmt::Display for Rule {
 #[cfg(test)]
 mod tests {
     use super::{check_version, fits};
-    use hvpm_sys::HVPM_VERSION;
 
     #[test]
     fn a_library_fits_if_nothing_may_have_broken() {
         check_version();
-        assert!(fits(HVPM_VERSION) && fits(HVPM_VERSION + 1));
-        assert!(!fits(HVPM_VERSION + 100) && !fits(HVPM_VERSION - 1) && !fits(HVPM_VERSION + 10_000));
+        // The version of the library, and that which is declared.
+        let fitting = [(100, 100), (103, 102), (10_203, 10_203), (10_204, 10_203), (10_300, 10_203)];
+        let others = [(99, 100), (101, 102), (200, 100), (10_100, 100), (10_202, 10_203), (20_203, 10_203)];
+        assert!(fitting.iter().all(|&(library, declared)| fits(library, declared)));
+        assert!(!others.iter().any(|&(library, declared)| fits(library, declared)));
     }
 }

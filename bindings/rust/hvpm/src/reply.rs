@@ -198,3 +198,26 @@ pub fn next(rcx: u64, reply: &Reply) -> u64 {
     // SAFETY: the reply is a whole one, and is only read.
     unsafe { sys::hvpm_next(rcx, &reply.raw) }
 }
+
+#[cfg(test)]
+mod tests {
+    use super::{Answer, HvStatus, Reply, Rule, sys};
+    use crate::{Caller, Effect, PortId};
+
+    /// Also where the machine has no such value today.
+    #[test]
+    fn fields_are_read_whole() {
+        let mut reply = Reply::new();
+        (reply.raw.kind, reply.raw.rule, reply.raw.result) = (sys::HVPM_REPLY_DENIED, 27, 0x0708_A000_1234);
+        assert_eq!(
+            (reply.answer(), reply.status()),
+            (Answer::Denied { rule: Rule(27) }, Some(HvStatus(0x1234)))
+        );
+        (reply.raw.kind, reply.raw.next) = (sys::HVPM_REPLY_MORE, 0x0FFF);
+        assert_eq!((reply.answer(), reply.result()), (Answer::More { next: 0x0FFF }, 0x0708_A000_1234));
+        let effect = &mut reply.raw.effect;
+        (effect.kind, effect.partition, effect.vp, effect.freed) = (sys::HVPM_EFFECT_SYNIC, 7, 9, 1);
+        let Effect::Synic(synic) = reply.effect() else { panic!("it is of a processor") };
+        assert_eq!((synic.at, synic.freed, synic.flag), (Caller::new(7, 9), Some(PortId(0)), None));
+    }
+}

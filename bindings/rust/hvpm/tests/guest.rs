@@ -147,8 +147,10 @@ fn cpuid_has_the_leaves_of_c() {
 #[test]
 fn reference_time_is_that_of_c() {
     let mut next = numbers(5);
-    for _ in 0..10_000 {
-        let (frequency, tsc, offset) = (next() >> (next() % 40), next(), next() as i64);
+    let edges = [0, 1, 9_999_999, 10_000_000, 10_000_001, u64::MAX];
+    for case in 0..10_000 {
+        let random = next() >> (next() % 40);
+        let (frequency, tsc, offset) = (*edges.get(case).unwrap_or(&random), next(), next() as i64);
         let (scale, sequence) = (tsc_scale(frequency), next() as u32);
         let mut page = [0; 24];
         // SAFETY: the pointer leads to as many bytes as the function writes.

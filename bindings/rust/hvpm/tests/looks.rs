@@ -2,7 +2,7 @@
 
 mod common;
 
-use common::{CONFIG, ROOT, set_up, shown};
+use common::{CONFIG, ROOT, set_up, shown, with_child};
 use hvpm::{Caller, Connection, ConnectionId, Life, Machine, Partition, PartitionId, Port, PortId, PortType};
 use hvpm::{PageRun, Sint, Status, VpIndex, is_call, is_msr};
 
@@ -88,6 +88,21 @@ fn ports_and_connections_show_their_fields() {
     };
     assert_eq!(machine.peek_connection(PartitionId(1), ConnectionId(2)), Some(messages));
     assert_eq!(machine.peek_connection(PartitionId(1), ConnectionId(4)), None);
+}
+
+#[test]
+fn links_of_two_partitions_show_both() -> Result<(), Status> {
+    let mut machine = with_child()?;
+    let (partition, r#type, vp) = (PartitionId(1), PortType::Messages, VpIndex(0));
+    let (id, peer, sint) = (PortId(9), PartitionId(2), Sint(4));
+    let port = Port { partition, id, peer, r#type, sint, vp, base_flag: 0, flag_count: 0 };
+    assert!(machine.create_port(ROOT, &port)?.is_served());
+    assert_eq!(machine.peek_port(partition, id), Some(port));
+    let (port_partition, connection_id) = (partition, ConnectionId(8));
+    let connection = Connection { partition: peer, id: connection_id, port_partition, port: id, r#type };
+    assert!(machine.connect_port(ROOT, &connection)?.is_served());
+    assert_eq!(machine.peek_connection(peer, connection_id), Some(connection));
+    Ok(())
 }
 
 #[test]

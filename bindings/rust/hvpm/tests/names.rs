@@ -25,7 +25,17 @@ fn statuses_of_the_library_have_names() {
     for (status, name) in names {
         assert_eq!(status_name(status), name);
     }
-    assert_eq!(Status::Pool.to_string(), "boot refused: pool");
+    let texts = [
+        (Status::Short, "the buffer for outputs is too short, or the bound is 0"),
+        (Status::UsedUp, "the machine takes no more events"),
+        (Status::Memory, "out of memory"),
+        (Status::Pages, "boot refused: pages"),
+        (Status::Pool, "boot refused: pool"),
+        (Status::Vps, "boot refused: vps"),
+    ];
+    for (status, text) in texts {
+        assert_eq!(status.to_string(), text);
+    }
 }
 
 #[test]

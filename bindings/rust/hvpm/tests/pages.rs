@@ -139,3 +139,109 @@ fn pages_move_to_another_thread() {
     fn is_send<T: Send>(_: T) {}
     is_send(Pages::new(GUEST));
 }
+
+#[test]
+fn the_machine_is_asked_only_where_a_vector_was_raised() -> Result<(), Status> {
+    let (messages, flags, mut pages) = (Page::new(0), Page::new(0), Pages::new(GUEST));
+    let mut machine = set_up(&mut pages, &messages, &flags)?;
+    post(&mut machine, &mut pages, b'a')?;
+    assert_eq!(pages.vector(&mut machine)?, Some(0x82));
+    let events = machine.events();
+    assert_eq!((pages.vector(&mut machine)?, machine.events()), (None, events));
+    // Another one takes the vector.
+    let reply = machine.signal_event(ROOT, SIGNAL, 2)?;
+    pages.after(&mut machine, &reply)?;
+    assert_eq!(machine.take_interrupt(GUEST)?.output(), [0x33]);
+    assert_eq!(pages.vector(&mut machine)?, None);
+    let events = machine.events();
+    assert_eq!((pages.vector(&mut machine)?, machine.events()), (None, events));
+    Ok(())
+}
+
+/// The guest frees its message between the event and the update of its pages, and looked for MessagePending before
+/// that was set.
+#[test]
+fn a_message_behind_one_that_is_freed_meanwhile_is_shown() -> Result<(), Status> {
+    let (messages, flags, mut pages) = (Page::new(0), Page::new(0), Pages::new(GUEST));
+    let mut machine = set_up(&mut pages, &messages, &flags)?;
+    post(&mut machine, &mut pages, b'a')?;
+    pages.before(&mut machine)?;
+    let reply = machine.post_message(ROOT, POST, 9, b"b")?;
+    messages.free();
+    pages.after(&mut machine, &reply)?;
+    assert_eq!((messages.slot(), pages.shown(), pages.take_freed()), ([9, 1, 0, b'b'], 1 << 2, true));
+    Ok(())
+}
+
+#[test]
+fn a_message_that_was_freed_does_not_move() -> Result<(), Status> {
+    let (messages, flags, mut pages) = (Page::new(0), Page::new(0), Pages::new(GUEST));
+    let other = Page::new(0xA5);
+    let mut machine = set_up(&mut pages, &messages, &flags)?;
+    post(&mut machine, &mut pages, b'a')?;
+    messages.free();
+    // SAFETY: as in `set_up`.
+    unsafe { pages.r#move(&mut machine, other.at(), flags.at())? };
+    assert_eq!((other.slot(), pages.shown()), ([0; 4], 0));
+    Ok(())
+}
+
+/// By an exit, without a page.
+#[test]
+fn a_slot_that_an_event_clears_is_freed() -> Result<(), Status> {
+    let mut pages = Pages::new(GUEST);
+    let mut machine = with_child()?;
+    enable(&mut machine);
+    post(&mut machine, &mut pages, b'a')?;
+    assert!(!pages.take_freed());
+    let reply = machine.clear_slot(GUEST, Sint(2))?;
+    pages.after(&mut machine, &reply)?;
+    assert!(pages.take_freed());
+    Ok(())
+}
+
+#[test]
+fn a_processor_that_comes_again_begins_without_pages_flags_and_vectors() -> Result<(), Status> {
+    let (messages, flags, mut pages) = (Page::new(0), Page::new(0), Pages::new(GUEST));
+    let mut machine = set_up(&mut pages, &messages, &flags)?;
+    let (partition, vp) = (hvpm::PartitionId(2), VpIndex(0));
+    let reply = machine.signal_event(ROOT, SIGNAL, 2)?;
+    pages.after(&mut machine, &reply)?;
+    // SAFETY: there is no event flags page.
+    unsafe { pages.r#move(&mut machine, messages.at(), None)? };
+    let mut others = [Pages::new(ROOT), Pages::new(Caller::new(2, 1)), Pages::new(Caller::new(1, 0))];
+    for reply in [machine.delete_vp(ROOT, partition, vp)?, machine.create_vp(ROOT, partition, vp)?] {
+        pages.after(&mut machine, &reply)?;
+        for other in &mut others {
+            other.after(&mut machine, &reply)?;
+            assert!(!other.take_freed());
+        }
+    }
+    let events = machine.events();
+    assert_eq!((pages.vector(&mut machine)?, machine.events()), (None, events));
+    enable(&mut machine);
+    // SAFETY: as in `set_up`.
+    unsafe { pages.r#move(&mut machine, messages.at(), flags.at())? };
+    assert!((0..4096).all(|at| flags.get(at) == 0));
+    let reply = machine.delete_vp(ROOT, partition, vp)?;
+    pages.after(&mut machine, &reply)?;
+    has(machine.create_vp(ROOT, partition, vp), Effect::Processor(GUEST));
+    enable(&mut machine);
+    let reply = machine.signal_event(ROOT, SIGNAL, 2)?;
+    pages.after(&mut machine, &reply)?;
+    assert!((0..4096).all(|at| flags.get(at) == 0), "the page of before isn't written");
+    Ok(())
+}
+
+#[test]
+fn a_partition_that_is_finalized_takes_the_pages_of_each_processor() -> Result<(), Status> {
+    let mut machine = with_child()?;
+    has(machine.create_vp(ROOT, hvpm::PartitionId(2), VpIndex(1)), Effect::Processor(Caller::new(2, 1)));
+    let mut pages = [0, 1].map(|vp| Pages::new(Caller::new(2, vp)));
+    let reply = machine.finalize_partition(ROOT, hvpm::PartitionId(2))?;
+    for pages in &mut pages {
+        pages.after(&mut machine, &reply)?;
+        assert!(pages.take_freed());
+    }
+    Ok(())
+}

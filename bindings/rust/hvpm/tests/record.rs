@@ -5,7 +5,10 @@ mod common;
 
 use common::{CONFIG, ROOT, bytes};
 use hvpm::pages::Pages;
-use hvpm::{Caller, Machine, PartitionId, Property, Registers, Sint, Status, VpIndex};
+use hvpm::{
+    Caller, Config, Connection, ConnectionId, Machine, PartitionId, Port, PortId, PortType, Property,
+};
+use hvpm::{Registers, Sint, Status, VpIndex};
 use std::ptr::NonNull;
 
 #[repr(align(4096))]
@@ -73,7 +76,7 @@ fn what_pages_do_is_recorded() -> Result<(), Status> {
     // SAFETY: the page has 4,096 bytes at a multiple of 4,096, and outlives the pages. Only this thread uses it,
     // by this pointer.
     unsafe { pages.r#move(&mut machine, Some(page), None)? };
-    let reply = machine.post_message(ROOT, hvpm::ConnectionId(2), 9, b"a")?;
+    let reply = machine.post_message(ROOT, ConnectionId(2), 9, b"a")?;
     pages.after(&mut machine, &reply)?;
     assert!(!machine.take_record().is_cut);
     assert_eq!(pages.vector(&mut machine)?, Some(0x32));
@@ -96,6 +99,63 @@ fn a_rep_call_that_is_interrupted_ends_the_record() -> Result<(), Status> {
     let record = machine.take_record();
     assert_eq!((record.script.as_str(), record.audit.as_str(), record.is_cut), ("", "", true));
     assert_eq!(machine.events(), 2);
+    Ok(())
+}
+
+/// Nor may another processor go on with the elements.
+#[test]
+fn a_rep_call_that_another_processor_goes_on_with_ends_the_record() -> Result<(), Status> {
+    let mut machine = Machine::boot_recorded(Config { pool: 8, vps: 2, ..CONFIG })?;
+    assert!(!machine.take_record().is_cut);
+    let call = Registers { rcx: (2 << 32) | 0x50, ..Registers::default() };
+    let input = bytes::<24>(&[(0, 1), (18, 2), (22, 2)]);
+    let reply = machine.hypercall(ROOT, call, &input)?;
+    assert_eq!(reply.answer(), hvpm::Answer::More { next: 1 });
+    let call = Registers { rcx: hvpm::next(call.rcx, &reply), ..call };
+    assert!(machine.hypercall(Caller::new(1, 1), call, &input)?.is_served());
+    let record = machine.take_record();
+    assert_eq!((record.script.lines().count(), record.is_cut), (1, true));
+    Ok(())
+}
+
+/// A phase of a script has 64 processors at most.
+#[test]
+fn a_record_has_a_phase_for_each_64_processors() -> Result<(), Status> {
+    let mut machine = Machine::boot_recorded(CONFIG)?;
+    for vp in (0..64).chain(0..64) {
+        machine.take_interrupt(Caller::new(1, vp))?;
+    }
+    assert!(!machine.take_record().script.contains("phase"));
+    machine.take_interrupt(Caller::new(2, 63))?;
+    machine.take_interrupt(Caller::new(1, 63))?;
+    let record = machine.take_record();
+    assert_eq!(record.script, "phase\n2.63 interrupt\n1.63 interrupt\n");
+    assert!(!record.is_cut);
+    Ok(())
+}
+
+/// A run of a machine that records ends where that of another one does.
+#[test]
+fn a_recorded_run_ends_at_a_message() -> Result<(), Status> {
+    let mut machine = Machine::boot_recorded(Config { pages: 64, pool: 16, ..CONFIG })?;
+    for (msr, value) in [(0x80, 1), (0x83, 1), (0x92, 0x32)] {
+        machine.write_msr(ROOT, 0x4000_0000 + msr, value)?;
+    }
+    let (partition, r#type, sint, vp) = (PartitionId(1), PortType::Messages, Sint(2), VpIndex(0));
+    let (id, connection_id) = (PortId(2), ConnectionId(2));
+    let port = Port { partition, id, peer: partition, r#type, sint, vp, base_flag: 0, flag_count: 0 };
+    let connection = Connection { partition, id: connection_id, port_partition: partition, port: id, r#type };
+    assert!(machine.create_port(ROOT, &port)?.is_served());
+    assert!(machine.connect_port(ROOT, &connection)?.is_served());
+    for byte in [b"a", b"b"] {
+        assert!(machine.post_message(ROOT, connection_id, 9, byte)?.is_served());
+    }
+    machine.clear_slot(ROOT, sint)?;
+    let registers = [hvpm::register::RAX, hvpm::register::EOM, hvpm::register::RBX]
+        .map(|name| hvpm::VpRegister { name, value: 0 });
+    let made = machine.write_registers(ROOT, partition, vp, &registers)?;
+    assert_eq!((made.count, made.reply.answer()), (2, hvpm::Answer::More { next: 2 }));
+    assert!(matches!(made.reply.effect(), hvpm::Effect::Synic(_)));
     Ok(())
 }
 

@@ -8,8 +8,8 @@ use hvpm::{PartitionId, Status, VpIndex};
 use std::env;
 use std::process::{Command, Output};
 
-/// Runs the ignored test of this name, which panics, in a process of its own with this program.
-fn panicking(name: &str, program: &str) -> Output {
+/// Runs the ignored test of this name in a process of its own with this program.
+fn run_alone(name: &str, program: &str) -> Output {
     let mut command = Command::new(env::current_exe().expect("a test has a path"));
     command
         .args(["--exact", name, "--ignored", "--nocapture"])
@@ -40,7 +40,7 @@ fn on_purpose() {
 #[test]
 fn a_panic_shows_the_last_events() {
     let program = env::var("HVPM").unwrap_or("hvpm".into());
-    let told = String::from_utf8(panicking("on_purpose", &program).stderr).expect("it is text");
+    let told = String::from_utf8(run_alone("on_purpose", &program).stderr).expect("it is text");
     let at = told.find("hvpm: the last events\n").unwrap_or_else(|| panic!("{told}"));
     let lines: Vec<&str> = told[at..].lines().collect();
     assert!(lines[1].starts_with("4 1.0 HvCreateVp partition 7, vp 3"), "{told}");
@@ -53,7 +53,21 @@ fn a_panic_shows_the_last_events() {
 }
 
 #[test]
+#[ignore = "what it prints is compared"]
+fn without_a_panic() {
+    let mut machine = TestMachine::boot(CONFIG);
+    assert!(!machine.create_vp(ROOT, PartitionId(7), VpIndex(0)).expect("an event happens").is_served());
+}
+
+#[test]
+fn a_test_that_passes_tells_nothing() {
+    let ended = run_alone("without_a_panic", "/nowhere");
+    let told = String::from_utf8(ended.stderr).expect("it is text");
+    assert!(ended.status.success() && !told.contains("hvpm"), "{told}");
+}
+
+#[test]
 fn a_program_that_is_not_there_is_told() {
-    let told = String::from_utf8(panicking("on_purpose", "/nowhere").stderr).expect("it is text");
+    let told = String::from_utf8(run_alone("on_purpose", "/nowhere").stderr).expect("it is text");
     assert!(told.contains("not explained: /nowhere: "), "{told}");
 }
