@@ -6,7 +6,7 @@ use Rattle.hv_run.specs.Failure.{exit_of}
 use Rattle.hv_run.specs.declared.failure.Exit.TheVariants.{Host, Script}
 use Rattle.hv_run.specs.declared.failure.Failure.{Failure}
 use Rattle.hv_script.specs.Script.{Said}
-use Rattle.hv_refine.specs.Room.{roomless}
+use Rattle.hv_admit.specs.Room.{roomless}
 use Rattle.std.specs.FinMap.{keys}
 use Rattle.hv_tree.specs.Rows.{Rows}
 use Rattle.hv_explain.specs.First.{HasRun}

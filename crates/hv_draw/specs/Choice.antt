@@ -1,7 +1,7 @@
 -- Which events a sequence chart shows.
 use Rattle.std.specs.Prelude.{ℕ, ◌==◌, ◌&&◌, ◌||◌, Bool, true, false, Option, None, Some, nat_le}
-use Rattle.hv_effect.specs.declared.effect.Effect.{Effect}
-use Rattle.hv_effect.specs.declared.effect.Effect.TheVariants as effect
+use Rattle.hv_admit.specs.declared.effect.Effect.{Effect}
+use Rattle.hv_admit.specs.declared.effect.Effect.TheVariants as effect
 use Rattle.hv_policy.specs.declared.event.Caller.{Caller}
 use Rattle.hv_draw.specs.declared.choice.Choice.{Choice}
 use Rattle.hv_draw.specs.declared.choice.Only.{Only}

@@ -9,7 +9,7 @@ use Rattle.hv_history.specs.Kept.{IsRun, Kept}
 use Rattle.hv_partition.specs.Partition.{PartitionState}
 use Rattle.hv_run.specs.Written.{HasPart}
 use Rattle.hv_script.specs.Script.{Said, script_of}
-use Rattle.hv_refine.specs.Room.{roomless}
+use Rattle.hv_admit.specs.Room.{roomless}
 use Rattle.hv_tree.specs.Rows.{Rows}
 use Rattle.hv_draw.specs.Graph.{AreBlocks, end_text, head_text}
 

@@ -10,8 +10,8 @@ use Rattle.hv_abi.specs.InputValue.{input_value}
 use Rattle.hv_abi.specs.declared.call_kind.CallKind.{CallKind}
 use Rattle.hv_abi.specs.declared.call_kind.CallKind.TheVariants as call
 use Rattle.hv_defs.specs.declared.registers.TheConstants.{EOM}
-use Rattle.hv_effect.specs.declared.effect.Effect.{Effect}
-use Rattle.hv_effect.specs.declared.effect.Effect.TheVariants as effect
+use Rattle.hv_admit.specs.declared.effect.Effect.{Effect}
+use Rattle.hv_admit.specs.declared.effect.Effect.TheVariants as effect
 use Rattle.hv_check.specs.Legal.{IsLegalOf}
 use Rattle.hv_explain.specs.Followed.{HasFollowedText}
 use Rattle.hv_explain.specs.Written.{HasExplainedText, Telling}

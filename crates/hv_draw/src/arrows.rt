@@ -3,7 +3,7 @@
 use crate::notes::push_raised;
 use crate::shapes::{Class, Label, Place};
 use crate::ways::Way;
-use hv_effect::{Effect, Synic};
+use hv_admit::{Effect, Synic};
 use hv_words::Words;
 
 // The distance of a text from its lane, and from an arrow whose ends are on one lane.

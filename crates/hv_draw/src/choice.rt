@@ -3,7 +3,7 @@ ghost use Rattle.std.specs.Prelude.{◌≡◌};
 ghost use Rattle.hv_draw.specs.Choice.{concerns, is_at, is_chosen, reaches};
 ghost use Rattle.hv_draw.specs.declared.choice.Choice.{Choice as ChoiceValue};
 
-use hv_effect::Effect;
+use hv_admit::Effect;
 use hv_policy::Caller;
 use hv_script::processor;
 use std::marker::Brand;

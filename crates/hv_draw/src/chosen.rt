@@ -6,7 +6,7 @@ use crate::chart::Chart;
 use crate::choice::{Choice, Chooses, is_chosen};
 use crate::phases::Phases;
 use crate::rowed::has_row;
-use hv_effect::Effect;
+use hv_admit::Effect;
 use hv_explain::Teller;
 use hv_history::Kept;
 use hv_policy::{Action, Caller, Reply};

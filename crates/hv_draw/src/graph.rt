@@ -12,9 +12,9 @@ use crate::folded::is_crowd;
 use crate::inside::push_inside;
 use crate::made::MadePort;
 use crate::text::{push, push_hex_64, push_number};
+use hv_admit::Partitions;
 use hv_defs::Life;
 use hv_partition::{PageKind, Partition};
-use hv_refine::Partitions;
 use std::alloc::{AllocError, Global};
 
 // The most partitions of a graph that runs from top to bottom.

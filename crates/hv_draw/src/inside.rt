@@ -6,11 +6,11 @@ ghost use Rattle.hv_draw.specs.declared.inside.TheConstants.{SINTS};
 use crate::folded::{are_folded, push_folded_ports, push_folded_vps, push_vps_name};
 use crate::made::MadePort;
 use crate::text::{push, push_number};
+use hv_admit::Partitions;
 use hv_defs::{Aim, PortKind};
 use hv_partition::Partition;
 use hv_policy::Caller;
 use hv_ports::Port;
-use hv_refine::Partitions;
 use hv_vp::Vp;
 use std::alloc::{AllocError, Global};
 

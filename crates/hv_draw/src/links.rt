@@ -4,10 +4,10 @@
 use crate::folded::{is_crowd, push_ports_name};
 use crate::inside::push_port_name;
 use crate::text::{push, push_number};
+use hv_admit::Partitions;
 use hv_defs::PortKind;
 use hv_partition::Partition;
 use hv_ports::Conn;
-use hv_refine::Partitions;
 use indexmap::IndexMap;
 use std::alloc::{AllocError, Global};
 

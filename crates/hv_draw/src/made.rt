@@ -2,9 +2,9 @@
 // messages of a port that is gone, which its partition does not list.
 
 use hv_abi::{Bytes, Frame};
+use hv_admit::resolve_partition_id;
 use hv_calls::{Call, decode};
 use hv_history::{Answer, EntryRef, Kept, Request};
-use hv_refine::resolve_partition_id;
 use std::alloc::{AllocError, Global};
 
 /// A port that an event created. It may be gone.

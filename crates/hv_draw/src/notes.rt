@@ -5,10 +5,9 @@ use crate::inside::is_set;
 use crate::rowed::is_eom;
 use crate::shapes::{Class, Label, Mark, Place};
 use hv_abi::{CallKind, Frame, InputValue};
+use hv_admit::{Effect, Synic, resolve_partition_id};
 use hv_calls::Call;
-use hv_effect::{Effect, Synic};
 use hv_policy::{Access, Action, Answer, Caller, Reply, Rule};
-use hv_refine::resolve_partition_id;
 use hv_words::{Words, call_name, push_access, push_access_output};
 use std::alloc::Global;
 

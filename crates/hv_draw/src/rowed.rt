@@ -3,8 +3,8 @@ ghost use Rattle.std.specs.Prelude.{◌≡◌};
 ghost use Rattle.hv_draw.specs.Sequence.{asks_row, has_row, is_call_drawn, is_eom, is_synic};
 
 use hv_abi::{CallKind, InputValue};
+use hv_admit::Effect;
 use hv_defs::EOM;
-use hv_effect::Effect;
 use hv_policy::Action;
 use hv_vp::name_of_msr;
 use std::alloc::Global;

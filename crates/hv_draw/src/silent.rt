@@ -1,5 +1,5 @@
 // A teller that writes nothing.
-use hv_effect::Effect;
+use hv_admit::Effect;
 use hv_explain::Teller;
 use hv_history::Kept;
 use hv_policy::{Action, Caller, Reply};

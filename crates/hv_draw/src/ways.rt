@@ -1,11 +1,11 @@
 // The way of a message or a signal.
 
 use crate::calls::call_of;
+use hv_admit::Partitions;
 use hv_calls::Call;
 use hv_defs::Aim;
 use hv_policy::{Action, Answer, Caller, Reply};
 use hv_ports::Port;
-use hv_refine::Partitions;
 use std::alloc::Global;
 
 /// The way of a message or a signal that was accepted.

@@ -22,9 +22,9 @@ use Rattle.hv_embed.specs.declared.layout.TheConstants.{ELEMENT_OUTPUT}
 use Rattle.hv_abi.specs.Check.{call_of}
 use Rattle.hv_abi.specs.declared.status.Status.{Status}
 use Rattle.hv_defs.specs.Bits.{bits}
-use Rattle.hv_effect.specs.Effect.{Tells}
-use Rattle.hv_effect.specs.declared.effect.Effect.{Effect}
-use Rattle.hv_effect.specs.declared.effect.Effect.TheVariants as variant
+use Rattle.hv_admit.specs.Effect.{Tells}
+use Rattle.hv_admit.specs.declared.effect.Effect.{Effect}
+use Rattle.hv_admit.specs.declared.effect.Effect.TheVariants as variant
 use Rattle.hv_invariants.proofs.Replies.{few_output_of}
 use Rattle.hv_machine.specs.MachineInvariant.{MachineInvariant}
 use Rattle.hv_policy.specs.Answer.{is_done, output_of}

@@ -4,10 +4,10 @@ use Rattle.std.specs.FinMap.{get}
 use Rattle.hv_defs.specs.declared.sizes.TheConstants.{MAX_PAGES}
 use Rattle.hv_partition.specs.Partition.{PartitionState}
 use Rattle.hv_policy.specs.Flat.{Flat}
-use Rattle.hv_refine.proofs.FoundRow.{content_row}
-use Rattle.hv_refine.proofs.StateInvariant.{page_below}
-use Rattle.hv_refine.specs.Served.{TreeInvariant}
-use Rattle.hv_refine.specs.Tie.{Refines, conn_row, conn_row_of, holds as holds_in, port_row, port_row_of, vp_row, vp_row_of}
+use Rattle.hv_admit.proofs.FoundRow.{content_row}
+use Rattle.hv_admit.proofs.StateInvariant.{page_below}
+use Rattle.hv_admit.specs.Served.{TreeInvariant}
+use Rattle.hv_admit.specs.Tie.{Refines, conn_row, conn_row_of, holds as holds_in, port_row, port_row_of, vp_row, vp_row_of}
 use Rattle.hv_tree.specs.Rows.{Row, Rows, content}
 use Rattle.hv_embed.specs.Held.{has_id, has_vp, is_held_by, is_link, is_page, is_vp}
 use Rattle.hv_embed.specs.Next.{IsNext, IsNextRun, is_after}

@@ -2,11 +2,11 @@
 use Rattle.std.specs.Prelude.{◌≡◌, ℕ, ◌<◌, ◌==◌, ◌||◌, Bool, if◌then◌else◌, Option, None, Some}
 use Rattle.std.specs.FinMap.{get}
 use Rattle.hv_defs.specs.declared.sizes.TheConstants.{SINTS}
-use Rattle.hv_effect.specs.Effect.{Tells, has_bit, is_number}
-use Rattle.hv_effect.specs.declared.effect.Effect.{Effect}
-use Rattle.hv_effect.specs.declared.effect.Effect.TheVariants as effect
-use Rattle.hv_effect.specs.declared.effect.FlagChange.{FlagChange}
-use Rattle.hv_effect.specs.declared.effect.Synic.{Synic}
+use Rattle.hv_admit.specs.Effect.{Tells, has_bit, is_number}
+use Rattle.hv_admit.specs.declared.effect.Effect.{Effect}
+use Rattle.hv_admit.specs.declared.effect.Effect.TheVariants as effect
+use Rattle.hv_admit.specs.declared.effect.FlagChange.{FlagChange}
+use Rattle.hv_admit.specs.declared.effect.Synic.{Synic}
 use Rattle.hv_mail.specs.Words.{numbers_of}
 use Rattle.hv_policy.specs.Flat.{Flat}
 use Rattle.hv_policy.specs.Mail.{Place, mail_at}

@@ -6,7 +6,7 @@ use Rattle.hv_partition.specs.Partition.{PartitionState, pages_in}
 use Rattle.hv_partition.specs.declared.kind.PageKind.{PageKind}
 use Rattle.hv_partition.specs.declared.kind.PageKind.TheVariants.{Loose, Pooled}
 use Rattle.hv_policy.specs.Flat.{Flat}
-use Rattle.hv_refine.specs.Tie.{is_held}
+use Rattle.hv_admit.specs.Tie.{is_held}
 use Rattle.hv_embed.specs.declared.layout.TheConstants.{FIRST}
 use Rattle.hv_embed.specs.declared.next.Links.{Links}
 use Rattle.hv_embed.specs.declared.next.Links.TheVariants.{Ports, Connections}

@@ -13,7 +13,7 @@ ghost use Rattle.hv_embed.specs.Taken.{HasLine, is_short as is_short_len};
 
 use crate::layout::{DENIED, FAULT, HvReply, MORE, SERVED};
 use hv_abi::Frame;
-use hv_effect::Effect;
+use hv_admit::Effect;
 use hv_history::{EntryRef, Request};
 use hv_machine::{Access, Answer};
 use hv_policy::{Rule, result_value};

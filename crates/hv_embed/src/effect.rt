@@ -1,15 +1,15 @@
 // The effect of an event, as C reads it.
 ghost use Rattle.std.specs.Prelude.{◌≡◌, ◌<◌, ℕ};
 ghost use Rattle.hv_defs.specs.declared.sizes.TheConstants.{SINTS as MOST_SINTS};
-ghost use Rattle.hv_effect.specs.Effect.{has_bit, is_number};
+ghost use Rattle.hv_admit.specs.Effect.{has_bit, is_number};
 ghost use Rattle.hv_embed.specs.Effect.{IsFlag, IsShown, IsSynicShown, is_quiet_kind};
 
 use crate::layout::{
     EFFECT_NOTHING, EFFECT_PAGE, EFFECT_PAGES, EFFECT_PARTITION, EFFECT_PROCESSOR, EFFECT_SYNIC,
     FLAG_CLEARED, FLAG_SET, HvEffect,
 };
+use hv_admit::{Effect, FlagChange, Synic};
 use hv_defs::SINTS;
-use hv_effect::{Effect, FlagChange, Synic};
 
 // Writes an effect for C. Only the fields that its kind has are written.
 pub(crate) fn show(effect: Effect, told: &mut HvEffect)
@@ -75,7 +75,7 @@ fn flag_parts(flag: Option<FlagChange>) -> (u16, u8, u8)
 }
 
 // Returns the SINT at which one more message waits, as a bit.
-#[tactic(auto, using(hv_effect::proofs::ProcessorChange::mask_bit))]
+#[tactic(auto, using(hv_admit::proofs::ProcessorChange::mask_bit))]
 fn waiting_bits(waiting: Option<u8>) -> u16
     ensures { (k : ℕ) → k < MOST_SINTS → has_bit result k ≡ is_number waiting k }
 {

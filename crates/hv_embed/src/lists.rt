@@ -2,8 +2,8 @@
 ghost use Rattle.std.specs.Prelude.{◌≡◌};
 ghost use Rattle.hv_machine.specs.IsFlat.{IsFlat};
 ghost use Rattle.hv_policy.specs.Flat.{Flat};
-ghost use Rattle.hv_refine.specs.Served.{TreeInvariant};
-ghost use Rattle.hv_refine.specs.Tie.{Refines};
+ghost use Rattle.hv_admit.specs.Served.{TreeInvariant};
+ghost use Rattle.hv_admit.specs.Tie.{Refines};
 ghost use Rattle.hv_embed.specs.Held.{is_link, is_page, is_vp};
 ghost use Rattle.hv_embed.specs.Looks.{IsLookFor};
 ghost use Rattle.hv_embed.specs.Next.{IsNext, IsNextRun};
@@ -14,8 +14,8 @@ use crate::handle::{HvMachine, state_of};
 use crate::layout::HvPageRun;
 use crate::looks::put;
 use crate::next::{Links, next_id, next_run, next_vp};
+use hv_admit::Partitions;
 use hv_machine::Machine;
-use hv_refine::Partitions;
 use std::alloc::Global;
 
 /// Looks up the least index above `previous` among the processors of a partition, or the least of all if

@@ -7,7 +7,7 @@ ghost use Rattle.hv_defs.specs.Registers.{name_of_msr};
 ghost use Rattle.hv_looks.specs.Look.{child_seen, features_seen, flags_seen, msr_seen, owner_seen};
 ghost use Rattle.hv_looks.specs.Look.{partition_seen, pending_seen, slot_seen};
 ghost use Rattle.hv_mail.specs.Words.{numbers_of};
-ghost use Rattle.hv_refine.specs.Tie.{conn_row_of, port_row_of};
+ghost use Rattle.hv_admit.specs.Tie.{conn_row_of, port_row_of};
 ghost use Rattle.hv_embed.specs.Answer.{caller_of as caller_by};
 ghost use Rattle.hv_embed.specs.Looks.{IsLook, Shows, aim_number, conn_shown, life_number, partition_shown};
 ghost use Rattle.hv_embed.specs.Looks.{port_shown, type_number};

@@ -6,8 +6,8 @@ use Rattle.std.proofs.KnownBytes.{Appends-kept, Appends-nil, Appends-trans}
 use Rattle.std.proofs.lemmas.List.Elements.{All-cons, All-nil, All-push}
 use Rattle.hv_abi.specs.declared.frame.Frame.{Frame}
 use Rattle.hv_check.specs.Takes.{HasTaken}
-use Rattle.hv_effect.specs.Effect.{Tells}
-use Rattle.hv_effect.specs.declared.effect.Effect.{Effect}
+use Rattle.hv_admit.specs.Effect.{Tells}
+use Rattle.hv_admit.specs.declared.effect.Effect.{Effect}
 use Rattle.hv_explain.proofs.AskedActions.{HasBegun, elements_push, ends_whole, one_event}
 use Rattle.hv_explain.proofs.Lines.{HasToldUpTo}
 use Rattle.hv_explain.proofs.RunLines.{AreMost, HasReached, HasRunSome, none_begun}

@@ -3,8 +3,8 @@ use Rattle.std.proofs.Common.{◌≡◌, ℕ, ◌+◌, List, [], ◌∷◌, ◌+
 use Rattle.std.proofs.Common.{Global, IfSome}
 use Rattle.std.specs.Io.KnownBytes.{Appends}
 use Rattle.std.proofs.KnownBytes.{Appends-trans}
-use Rattle.hv_effect.specs.Effect.{Tells}
-use Rattle.hv_effect.specs.declared.effect.Effect.{Effect}
+use Rattle.hv_admit.specs.Effect.{Tells}
+use Rattle.hv_admit.specs.declared.effect.Effect.{Effect}
 use Rattle.hv_history.proofs.Runs.{run_more}
 use Rattle.hv_history.specs.Kept.{HasGained, IsRun, Kept}
 use Rattle.hv_history.specs.declared.entry.Entry.{Entry}

@@ -4,8 +4,8 @@ use Rattle.std.specs.Prelude.{IfNone, IfSome, Ok, slice_get}
 use Rattle.std.specs.Io.KnownBytes.{Appends}
 use Rattle.std.specs.declared.alloc.Global.{Global}
 use Rattle.hv_abi.specs.declared.frame.Frame.{Frame}
-use Rattle.hv_effect.specs.Effect.{Tells}
-use Rattle.hv_effect.specs.declared.effect.Effect.{Effect}
+use Rattle.hv_admit.specs.Effect.{Tells}
+use Rattle.hv_admit.specs.declared.effect.Effect.{Effect}
 use Rattle.hv_explain.specs.First.{HasRun}
 use Rattle.hv_history.specs.Kept.{HasGained, Kept, IsRun}
 use Rattle.hv_history.specs.Row.{events_of}

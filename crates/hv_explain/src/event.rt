@@ -8,7 +8,7 @@ ghost use Rattle.hv_explain.specs.Written.{HasHappened, HasPut, HasWrittenOne, e
 
 use crate::put::put_text;
 use crate::teller::Teller;
-use hv_effect::Effect;
+use hv_admit::Effect;
 use hv_history::{HostRefused, Kept, global};
 use hv_phases::RunError;
 use hv_policy::{Action, Caller, Event, Output, Reply};

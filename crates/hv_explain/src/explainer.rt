@@ -5,7 +5,7 @@ ghost use Rattle.hv_words.specs.Words.{IsPlain};
 ghost use Rattle.hv_explain.specs.Written.{HasPut, IsExplanation, entry_of, explains, head_text};
 
 use crate::teller::Teller;
-use hv_effect::Effect;
+use hv_admit::Effect;
 use hv_history::Kept;
 use hv_policy::{Action, Caller, Reply};
 use hv_words::{Words, push_event};

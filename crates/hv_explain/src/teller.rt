@@ -2,7 +2,7 @@
 ghost use Rattle.std.specs.Prelude.{OnOk};
 ghost use Rattle.hv_explain.specs.Written.{HasPut, Telling, entry_of};
 
-use hv_effect::Effect;
+use hv_admit::Effect;
 use hv_history::Kept;
 use hv_policy::{Action, Caller, Reply};
 use std::alloc::Global;

@@ -23,7 +23,7 @@ use Rattle.hv_security.proofs.ProvenanceOfRuns.{IsKnown, known}
 use Rattle.hv_security.proofs.RowsOneEntryLater.{mail_of}
 use Rattle.hv_security.specs.Operation.{operations_of}
 use Rattle.hv_security.specs.Justified.{WerePosted, has_flag}
-use Rattle.hv_refine.specs.Tie.{here}
+use Rattle.hv_admit.specs.Tie.{here}
 use Rattle.hv_machine.specs.IsFlat.{IsFlat}
 use Rattle.hv_machine.specs.Sound.{IsSound}
 use Rattle.hv_machine.specs.State.{State}

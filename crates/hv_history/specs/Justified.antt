@@ -8,7 +8,7 @@ use Rattle.hv_policy.specs.declared.config.Config.{Config}
 use Rattle.hv_security.specs.Operation.{Operation, operations_of}
 use Rattle.hv_security.specs.Justified.{WasConnected, WasMade, WasSignalled, WerePosted, has_flag}
 use Rattle.hv_security.specs.Justified.{state_before}
-use Rattle.hv_refine.specs.Tie.{conn_row, here, mail_there, port_row, rows_of, vp_row}
+use Rattle.hv_admit.specs.Tie.{conn_row, here, mail_there, port_row, rows_of, vp_row}
 use Rattle.hv_tree.specs.Rows.{Rows}
 use Rattle.hv_history.specs.Row.{events_of, replies_of}
 use Rattle.hv_history.specs.declared.entry.Entry.{Entry}

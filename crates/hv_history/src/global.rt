@@ -5,7 +5,7 @@
 ghost use Rattle.std.specs.Prelude.{◌≡◌, ◌<◌, ◌↔◌, [], length, IfOk, OnErr, IfErr, IsErrOf};
 ghost use Rattle.std.specs.declared.alloc.Global.{Global as GlobalValue};
 ghost use Rattle.hv_abi.specs.declared.frame.Frame.{Frame as FrameValue};
-ghost use Rattle.hv_effect.specs.Effect.{Tells};
+ghost use Rattle.hv_admit.specs.Effect.{Tells};
 ghost use Rattle.hv_machine.specs.IsFlat.{IsFlat};
 ghost use Rattle.hv_policy.specs.Flat.{Flat};
 ghost use Rattle.hv_policy.specs.Next.{GoesOn};
@@ -19,7 +19,7 @@ ghost use Rattle.hv_history.specs.Run.{HasRun, HasStopped};
 use crate::kept::{HostRefused, Kept};
 use crate::run::{RunAnswered, RunDone};
 use hv_abi::Frame;
-use hv_effect::Effect;
+use hv_admit::Effect;
 use hv_machine::{Answer, Caller, Event, Output, Reply};
 use std::alloc::Global;
 

@@ -3,7 +3,7 @@ ghost use Rattle.std.specs.Prelude.{◌≡◌, ◌-◌, ◌<◌, ◌↔◌, [], 
 ghost use Rattle.std.specs.Prelude.{IfOk, OnErr, IfErr, IsErrOf};
 ghost use Rattle.hv_abi.specs.declared.frame.Frame.{Frame};
 ghost use Rattle.hv_defs.specs.declared.sizes.TheConstants.{REPS_END};
-ghost use Rattle.hv_effect.specs.Effect.{Tells};
+ghost use Rattle.hv_admit.specs.Effect.{Tells};
 ghost use Rattle.hv_machine.specs.IsFlat.{IsFlat};
 ghost use Rattle.hv_machine.specs.Masks.{AreMasksWithin};
 ghost use Rattle.hv_policy.specs.BootFault.{boot_fault, IsBootRefusal};
@@ -20,7 +20,7 @@ ghost use Rattle.hv_history.specs.Run.{element, restart};
 ghost use Rattle.hv_history.specs.declared.entry.Entry.{Entry};
 
 use crate::row::History;
-use hv_effect::Effect;
+use hv_admit::Effect;
 use hv_machine::{Answer, BootRefused, Config, Event, Machine, Output, Reply};
 use std::alloc::Allocator;
 use std::marker::Model;

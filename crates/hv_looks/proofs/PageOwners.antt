@@ -5,10 +5,10 @@ use Rattle.std.specs.FinSet as set
 use Rattle.hv_defs.specs.declared.sizes.TheConstants.{MAX_PAGES}
 use Rattle.hv_partition.specs.Partition.{PartitionState}
 use Rattle.hv_policy.specs.Flat.{Flat, PageRow}
-use Rattle.hv_refine.proofs.PageHolders.{held_alone, held_by_owner}
-use Rattle.hv_refine.proofs.StateInvariant.{page_below}
-use Rattle.hv_refine.specs.Served.{TreeInvariant}
-use Rattle.hv_refine.specs.Tie.{Refines, holds, is_held}
+use Rattle.hv_admit.proofs.PageHolders.{held_alone, held_by_owner}
+use Rattle.hv_admit.proofs.StateInvariant.{page_below}
+use Rattle.hv_admit.specs.Served.{TreeInvariant}
+use Rattle.hv_admit.specs.Tie.{Refines, holds, is_held}
 use Rattle.hv_tree.specs.Rows.{Row, Rows, content}
 use Rattle.hv_looks.specs.Look.{owner_seen}
 use Rattle.hv_looks.specs.Rows.{has_page}

@@ -9,11 +9,11 @@ use Rattle.hv_partition.specs.Partition.{PartitionState, in_use}
 use Rattle.hv_policy.specs.Answer.{next_child}
 use Rattle.hv_policy.specs.Flat.{Flat, PartRow}
 use Rattle.hv_privs.specs.declared.Privileges.{Privileges}
-use Rattle.hv_refine.proofs.CountedRows.{children_counted, conns_counted, pool_counted, ports_counted, use_counted, vps_counted}
-use Rattle.hv_refine.proofs.FoundRow.{content_row}
-use Rattle.hv_refine.proofs.StateInvariant.{parents_below}
-use Rattle.hv_refine.specs.Served.{TreeInvariant}
-use Rattle.hv_refine.specs.Tie.{Refines, conn_row, conn_row_of, part_row, port_row, port_row_of}
+use Rattle.hv_admit.proofs.CountedRows.{children_counted, conns_counted, pool_counted, ports_counted, use_counted, vps_counted}
+use Rattle.hv_admit.proofs.FoundRow.{content_row}
+use Rattle.hv_admit.proofs.StateInvariant.{parents_below}
+use Rattle.hv_admit.specs.Served.{TreeInvariant}
+use Rattle.hv_admit.specs.Tie.{Refines, conn_row, conn_row_of, part_row, port_row, port_row_of}
 use Rattle.hv_tree.specs.Rows.{HasDepth, IsLeastAbove, Row, Rows, children, content, parent}
 use Rattle.hv_looks.specs.Look.{child_seen, features_seen, leaf_of, look_of, partition_seen}
 use Rattle.hv_looks.specs.declared.partitions.PartitionLook.{PartitionLook}

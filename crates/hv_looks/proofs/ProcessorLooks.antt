@@ -14,12 +14,12 @@ use Rattle.hv_policy.specs.Answer.{register_of}
 use Rattle.hv_policy.specs.Flat.{Flat}
 use Rattle.hv_policy.specs.Mail.{place_at, slot_at}
 use Rattle.hv_policy.specs.declared.event.Caller.{Caller}
-use Rattle.hv_refine.proofs.ChangedProcessorMail.{slot_told}
-use Rattle.hv_refine.proofs.RoomIsNoState.{tied_roomless}
-use Rattle.hv_refine.proofs.ChangedProcessor.{vp_in}
-use Rattle.hv_refine.specs.Room.{roomless}
-use Rattle.hv_refine.specs.Served.{TreeInvariant}
-use Rattle.hv_refine.specs.Tie.{Refines, part_row, vp_row, vp_row_of}
+use Rattle.hv_admit.proofs.ChangedProcessorMail.{slot_told}
+use Rattle.hv_admit.proofs.RoomIsNoState.{tied_roomless}
+use Rattle.hv_admit.proofs.ChangedProcessor.{vp_in}
+use Rattle.hv_admit.specs.Room.{roomless}
+use Rattle.hv_admit.specs.Served.{TreeInvariant}
+use Rattle.hv_admit.specs.Tie.{Refines, part_row, vp_row, vp_row_of}
 use Rattle.hv_tree.specs.Rows.{Row, Rows}
 use Rattle.hv_vp.specs.Vp.{VpState}
 use Rattle.hv_looks.specs.Look.{at_sint, flags_seen, msr_seen, slot_seen, vp_at}

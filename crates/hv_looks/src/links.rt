@@ -3,7 +3,7 @@ ghost use Rattle.std.specs.Prelude.{◌≡◌, option_map};
 ghost use Rattle.std.specs.FinMap.{get};
 ghost use Rattle.hv_machine.specs.IsFlat.{IsFlat};
 ghost use Rattle.hv_policy.specs.Flat.{Flat};
-ghost use Rattle.hv_refine.specs.Tie.{conn_row_of, port_row_of};
+ghost use Rattle.hv_admit.specs.Tie.{conn_row_of, port_row_of};
 
 use crate::tree::tree_of;
 use hv_machine::Machine;

@@ -2,18 +2,18 @@
 ghost use Rattle.std.specs.Prelude.{◌≡◌};
 ghost use Rattle.hv_machine.specs.IsFlat.{IsFlat};
 ghost use Rattle.hv_policy.specs.Flat.{Flat};
-ghost use Rattle.hv_refine.specs.Served.{TreeInvariant};
-ghost use Rattle.hv_refine.specs.Tie.{Refines};
+ghost use Rattle.hv_admit.specs.Served.{TreeInvariant};
+ghost use Rattle.hv_admit.specs.Tie.{Refines};
 ghost use Rattle.hv_tree.specs.Rows.{content};
 ghost use Rattle.hv_looks.specs.Look.{child_seen, owner_seen, partition_seen};
 ghost use Rattle.hv_looks.specs.Rows.{has_page as has_page_of};
 
 use crate::tree::tree_of;
+use hv_admit::Partitions;
 use hv_defs::{Life, MAX_PAGES};
 use hv_machine::Machine;
 use hv_partition::PageKind;
 use hv_privs::Privileges;
-use hv_refine::Partitions;
 use std::alloc::Allocator;
 
 // Every page number is below this.

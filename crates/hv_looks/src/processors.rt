@@ -7,13 +7,13 @@ ghost use Rattle.hv_mail.specs.Words.{numbers_of};
 ghost use Rattle.hv_policy.specs.Flat.{Flat};
 ghost use Rattle.hv_policy.specs.declared.event.Access.TheVariants.{ReadFlags, ReadMsr, ReadSlot};
 ghost use Rattle.hv_policy.specs.declared.event.Access.TheVariants.{TakeInterrupt};
-ghost use Rattle.hv_refine.specs.Tie.{Refines};
+ghost use Rattle.hv_admit.specs.Tie.{Refines};
 ghost use Rattle.hv_looks.specs.Look.{ShowsServed, flags_seen, highest_of, msr_seen, pending_seen, slot_seen};
 
 use crate::tree::{tree_of, vp_at};
+use hv_admit::Partitions;
 use hv_defs::SINTS;
 use hv_machine::{Caller, Machine};
-use hv_refine::Partitions;
 use hv_vp::name_of_msr;
 use std::alloc::Allocator;
 

@@ -3,12 +3,12 @@ ghost use Rattle.std.specs.Prelude.{◌≡◌, ◌<◌, ℕ, true, option_copied
 ghost use Rattle.std.specs.FinMap.{contains_key};
 ghost use Rattle.hv_machine.specs.IsFlat.{IsFlat};
 ghost use Rattle.hv_policy.specs.Flat.{Flat};
-ghost use Rattle.hv_refine.specs.Served.{TreeInvariant};
-ghost use Rattle.hv_refine.specs.Tie.{Refines};
+ghost use Rattle.hv_admit.specs.Served.{TreeInvariant};
+ghost use Rattle.hv_admit.specs.Tie.{Refines};
 ghost use Rattle.hv_looks.specs.Rows.{vp_there};
 
+use hv_admit::Partitions;
 use hv_machine::{Caller, Machine};
-use hv_refine::Partitions;
 use hv_vp::Vp;
 use std::alloc::Allocator;
 

@@ -1,9 +1,9 @@
 -- From what a call group made of an access to the machine.
 use Rattle.std.proofs.Common.{◌≡◌, ℕ, ◌+◌, List, None, refl, sym, ap, ◌∙◌, Ok, Err}
 use Rattle.hv_defs.specs.Registers.{name_of_msr}
-use Rattle.hv_effect.specs.Effect.{Tells}
-use Rattle.hv_effect.specs.declared.effect.Effect.{Effect}
-use Rattle.hv_effect.specs.declared.effect.Effect.TheVariants.{Nothing}
+use Rattle.hv_admit.specs.Effect.{Tells}
+use Rattle.hv_admit.specs.declared.effect.Effect.{Effect}
+use Rattle.hv_admit.specs.declared.effect.Effect.TheVariants.{Nothing}
 use Rattle.hv_invariants.proofs.MessageChanges.{write_next_is}
 use Rattle.hv_partition.specs.Partition.{PartitionState}
 use Rattle.hv_policy.proofs.Unmet.{past_caller}
@@ -19,9 +19,9 @@ use Rattle.hv_policy.specs.declared.event.Caller.{Caller}
 use Rattle.hv_policy.specs.declared.event.Event.{Event}
 use Rattle.hv_policy.specs.declared.reply.Reply.TheVariants.{Served, Fault}
 use Rattle.hv_policy.specs.declared.rule.Rule.{Rule}
-use Rattle.hv_refine.proofs.RoomIsNoState.{tied_roomless}
-use Rattle.hv_refine.specs.Access.{IsAnswered}
-use Rattle.hv_refine.specs.Tie.{Refines}
+use Rattle.hv_admit.proofs.RoomIsNoState.{tied_roomless}
+use Rattle.hv_admit.specs.Access.{IsAnswered}
+use Rattle.hv_admit.specs.Tie.{Refines}
 use Rattle.hv_tree.specs.Rows.{Rows}
 use Rattle.hv_machine.proofs.Steps.{denied, nothing_told, served_step, state_of, step_told}
 use Rattle.hv_machine.specs.Access.{access_event}

@@ -10,10 +10,10 @@ use Rattle.hv_policy.specs.BootFault.{boot_fault}
 use Rattle.hv_defs.specs.Flags.{pair_cmp}
 use Rattle.hv_policy.specs.declared.config.Config.{Config}
 use Rattle.hv_mail.specs.Mail.{no_mail}
-use Rattle.hv_refine.proofs.RoomIsNoState.{roomless_tied}
-use Rattle.hv_refine.proofs.ChangedProcessor.{new_mail}
-use Rattle.hv_refine.specs.Room.{roomless}
-use Rattle.hv_refine.specs.Tie.{PartitionRelation, conn_row_of, here, holds, is_held, part_row, port_row_of, rows_of, sint_mail, vp_row_of}
+use Rattle.hv_admit.proofs.RoomIsNoState.{roomless_tied}
+use Rattle.hv_admit.proofs.ChangedProcessor.{new_mail}
+use Rattle.hv_admit.specs.Room.{roomless}
+use Rattle.hv_admit.specs.Tie.{PartitionRelation, conn_row_of, here, holds, is_held, part_row, port_row_of, rows_of, sint_mail, vp_row_of}
 use Rattle.hv_tree.specs.Rows.{Rows}
 use Rattle.hv_machine.specs.BootRoot.{IsBootRoot}
 use Rattle.hv_machine.specs.IsFlat.{IsFlat}

@@ -4,7 +4,7 @@ use Rattle.std.specs.FinMap.{get}
 use Rattle.hv_security.specs.Same.{HasSame, held_by}
 use Rattle.hv_partition.specs.Partition.{PartitionState}
 use Rattle.hv_policy.specs.Flat.{Flat, PageRow}
-use Rattle.hv_refine.specs.Tie.{PartitionRelation, is_held}
+use Rattle.hv_admit.specs.Tie.{PartitionRelation, is_held}
 use Rattle.hv_tree.specs.Rows.{Row}
 use Rattle.hv_machine.specs.IsFlat.{IsFlat}
 use Rattle.hv_machine.specs.State.{State}

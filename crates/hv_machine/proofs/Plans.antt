@@ -3,7 +3,7 @@ use Rattle.std.proofs.Common.{◌≡◌, ℕ, sym, subst, ◌∙◌}
 use Rattle.hv_calls.specs.declared.call.Call.{Call}
 use Rattle.hv_partition.specs.Partition.{PartitionState}
 use Rattle.hv_policy.specs.declared.need.Need.{Need}
-use Rattle.hv_refine.specs.Asked.{AreFound, IsGranted}
+use Rattle.hv_admit.specs.Asked.{AreFound, IsGranted}
 use Rattle.hv_tree.specs.Rows.{Rows}
 use Rattle.hv_machine.specs.Plan.{IsPlanned, Leaves}
 use Rattle.hv_machine.specs.declared.dispatch.Plan.{Plan}

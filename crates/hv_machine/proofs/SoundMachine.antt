@@ -2,9 +2,9 @@
 use Rattle.std.proofs.Common.{◌≡◌, ℕ, true, Option, Some, None, is_some, refl, sym, ap, ◌∙◌, lt-ltb, option_map}
 use Rattle.std.specs.FinMap.{get}
 use Rattle.hv_policy.specs.Flat.{PageRow}
-use Rattle.hv_refine.proofs.PageHolders.{held_alone, held_by_owner}
-use Rattle.hv_refine.proofs.StateInvariant.{beyond, uses_within}
-use Rattle.hv_refine.specs.Tie.{is_held, part_row}
+use Rattle.hv_admit.proofs.PageHolders.{held_alone, held_by_owner}
+use Rattle.hv_admit.proofs.StateInvariant.{beyond, uses_within}
+use Rattle.hv_admit.specs.Tie.{is_held, part_row}
 use Rattle.hv_machine.specs.MachineInvariant.{MachineInvariant}
 use Rattle.hv_machine.specs.Sound.{IsHeldOnce, IsSound}
 use Rattle.hv_machine.specs.State.{State}

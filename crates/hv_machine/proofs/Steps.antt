@@ -8,11 +8,11 @@ use Rattle.hv_calls.specs.Call.{kind_of_call}
 use Rattle.hv_calls.specs.Params.{parameters}
 use Rattle.hv_calls.specs.declared.call.Call.{Call}
 use Rattle.hv_calls.specs.declared.call.Call.TheVariants.{CreatePartition, SetVpRegisters, PostMessage, SignalEvent}
-use Rattle.hv_effect.proofs.PagesAndVps.{untold}
-use Rattle.hv_effect.proofs.ProcessorChange.{once_counted}
-use Rattle.hv_effect.specs.Effect.{Tells}
-use Rattle.hv_effect.specs.declared.effect.Effect.{Effect}
-use Rattle.hv_effect.specs.declared.effect.Effect.TheVariants as variant
+use Rattle.hv_admit.proofs.PagesAndVps.{untold}
+use Rattle.hv_admit.proofs.ProcessorChange.{once_counted}
+use Rattle.hv_admit.specs.Effect.{Tells}
+use Rattle.hv_admit.specs.declared.effect.Effect.{Effect}
+use Rattle.hv_admit.specs.declared.effect.Effect.TheVariants as variant
 use Rattle.hv_security.proofs.OtherRows.{both}
 use Rattle.hv_security.proofs.CarriedConfinement.{nothing_carried, step_carried}
 use Rattle.hv_security.proofs.OthersUnchanged.{misses}
@@ -36,13 +36,13 @@ use Rattle.hv_policy.specs.declared.event.Caller.{Caller}
 use Rattle.hv_policy.specs.declared.event.Event.{Event}
 use Rattle.hv_policy.specs.declared.reply.Reply.{Reply}
 use Rattle.hv_policy.specs.declared.rule.Rule.{Rule}
-use Rattle.hv_refine.proofs.RoomIsNoState.{roomless_tied, same_roomless, tied_roomless}
-use Rattle.hv_refine.specs.Done.{IsCalled, unmet_in_tree}
-use Rattle.hv_refine.specs.Room.{IsSameButRoom, roomless}
-use Rattle.hv_refine.specs.Served.{TreeInvariant}
-use Rattle.hv_refine.specs.Tie.{Refines}
-use Rattle.hv_refine.specs.declared.refused.CallError.{CallError}
-use Rattle.hv_refine.specs.declared.refused.CallError.TheVariants as refused
+use Rattle.hv_admit.proofs.RoomIsNoState.{roomless_tied, same_roomless, tied_roomless}
+use Rattle.hv_admit.specs.Done.{IsCalled, unmet_in_tree}
+use Rattle.hv_admit.specs.Room.{IsSameButRoom, roomless}
+use Rattle.hv_admit.specs.Served.{TreeInvariant}
+use Rattle.hv_admit.specs.Tie.{Refines}
+use Rattle.hv_admit.specs.declared.refused.CallError.{CallError}
+use Rattle.hv_admit.specs.declared.refused.CallError.TheVariants as refused
 use Rattle.hv_tree.specs.Rows.{Rows}
 use Rattle.hv_machine.proofs.Integrity.{flat_same}
 use Rattle.hv_machine.proofs.SoundMachine.{sound}

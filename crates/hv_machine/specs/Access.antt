@@ -1,7 +1,7 @@
 -- Accesses as events.
 use Rattle.std.specs.Prelude.{ℕ, List, Result, Ok, Err}
-use Rattle.hv_effect.specs.declared.effect.Effect.{Effect}
-use Rattle.hv_effect.specs.declared.effect.Effect.TheVariants.{Nothing}
+use Rattle.hv_admit.specs.declared.effect.Effect.{Effect}
+use Rattle.hv_admit.specs.declared.effect.Effect.TheVariants.{Nothing}
 use Rattle.hv_policy.specs.Call.{action_of}
 use Rattle.hv_policy.specs.declared.event.Access.{Access}
 use Rattle.hv_policy.specs.declared.event.Caller.{Caller}

@@ -18,9 +18,9 @@ use Rattle.hv_port_calls.specs.Calls.{port_birth}
 use Rattle.hv_privs.specs.Privileges.{restrict}
 use Rattle.hv_privs.specs.declared.Privileges.{Privileges}
 use Rattle.hv_privs.specs.declared.TheConstants.Privileges as privilege
-use Rattle.hv_refine.specs.Asked.{AreFound}
-use Rattle.hv_refine.specs.Tie.{Refines}
-use Rattle.hv_refine.specs.declared.rules.Balance.{Balance}
+use Rattle.hv_admit.specs.Asked.{AreFound}
+use Rattle.hv_admit.specs.Tie.{Refines}
+use Rattle.hv_admit.specs.declared.rules.Balance.{Balance}
 use Rattle.hv_tree.specs.Rows.{Rows, content}
 use Rattle.hv_machine.specs.declared.dispatch.Plan.{Plan}
 use Rattle.hv_machine.specs.declared.dispatch.Plan.TheVariants as plan

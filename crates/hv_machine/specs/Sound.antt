@@ -5,7 +5,7 @@ use Rattle.std.specs.FinMap.{get}
 use Rattle.std.specs.FinSet as set
 use Rattle.hv_partition.specs.Partition.{PartitionState, in_use}
 use Rattle.hv_tree.specs.Rows.{Row, children}
-use Rattle.hv_refine.specs.Tie.{holds}
+use Rattle.hv_admit.specs.Tie.{holds}
 use Rattle.hv_machine.specs.Masks.{AreMasksWithin}
 use Rattle.hv_machine.specs.State.{State}
 

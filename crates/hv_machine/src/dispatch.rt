@@ -4,17 +4,17 @@ ghost use Rattle.std.specs.Result.{result_err, result_map_both};
 ghost use Rattle.hv_defs.specs.declared.sizes.TheConstants.{MAX_SERVED};
 ghost use Rattle.hv_policy.specs.Call.{action_of};
 ghost use Rattle.hv_policy.specs.Flat.{Flat};
-ghost use Rattle.hv_refine.specs.Access.{IsAnswered};
-ghost use Rattle.hv_refine.specs.Asked.{AreFound, IsGranted};
-ghost use Rattle.hv_refine.specs.Done.{IsCalled, IsDone};
-ghost use Rattle.hv_refine.specs.Served.{TreeInvariant, unmet_further};
-ghost use Rattle.hv_refine.specs.Tie.{Refines};
+ghost use Rattle.hv_admit.specs.Access.{IsAnswered};
+ghost use Rattle.hv_admit.specs.Asked.{AreFound, IsGranted};
+ghost use Rattle.hv_admit.specs.Done.{IsCalled, IsDone};
+ghost use Rattle.hv_admit.specs.Served.{TreeInvariant, unmet_further};
+ghost use Rattle.hv_admit.specs.Tie.{Refines};
 ghost use Rattle.hv_machine.specs.Next.{next_after as next_id_after};
 ghost use Rattle.hv_machine.specs.Plan.{IsPlanned};
 ghost use Rattle.hv_machine.specs.declared.dispatch.Plan.TheVariants as plan;
 
+use hv_admit::{Balance, CallError, Effect, Found, Partitions, admit, balance_of};
 use hv_calls::Call;
-use hv_effect::Effect;
 use hv_messages::{
     Aimed, ask_post, ask_signal, clear_flag, clear_slot, do_post, do_signal, read_flags, read_slot,
     take_interrupt,
@@ -35,7 +35,6 @@ use hv_processors::{
     ask_create_vp, ask_delete_vp, ask_get_registers, ask_set_registers, do_create_vp, do_delete_vp,
     do_get_registers, do_set_registers, read_msr, write_msr,
 };
-use hv_refine::{Balance, CallError, Found, Partitions, admit, balance_of};
 use std::alloc::{AllocError, Allocator};
 
 // What the question of a call leaves for its deed.

@@ -4,7 +4,7 @@ ghost use Rattle.std.specs.Result.{result_map_both};
 ghost use Rattle.hv_abi.specs.Check.{call_of};
 ghost use Rattle.hv_abi.specs.declared.frame.Frame.{Frame as CallFrame};
 ghost use Rattle.hv_security.specs.Integrity.{Integrity};
-ghost use Rattle.hv_effect.specs.Effect.{Tells};
+ghost use Rattle.hv_admit.specs.Effect.{Tells};
 ghost use Rattle.hv_policy.specs.Call.{call_event, may_take_memory};
 ghost use Rattle.hv_policy.specs.Flat.{Flat};
 ghost use Rattle.hv_security.specs.Misses.{LeavesOthers};
@@ -13,7 +13,7 @@ ghost use Rattle.hv_policy.specs.Result.{HasResult};
 ghost use Rattle.hv_policy.specs.Step.{NamesAsked, step};
 ghost use Rattle.hv_policy.specs.Rules.{unmet};
 ghost use Rattle.hv_policy.specs.declared.event.Action.TheVariants.{Hypercall};
-ghost use Rattle.hv_refine.specs.Room.{roomless};
+ghost use Rattle.hv_admit.specs.Room.{roomless};
 ghost use Rattle.hv_machine.specs.Access.{access_event, access_reply, effect_in};
 ghost use Rattle.hv_machine.specs.IsFlat.{IsFlat};
 ghost use Rattle.hv_machine.specs.MachineInvariant.{MachineInvariant};
@@ -23,12 +23,11 @@ ghost use Rattle.hv_defs.specs.declared.sizes.TheConstants.{MAX_SERVED};
 
 use crate::dispatch::{dispatch, dispatch_access, next_after};
 use hv_abi::{CallKind, Frame, InputValue};
+use hv_admit::{CallError, Effect, Partitions, first_rule};
 use hv_defs::MAX_SERVED;
-use hv_effect::Effect;
 use hv_policy::{
     Access, Answer, Caller, Event, Output, Reply, Rule, ask_frame, refused_answer, served_answer,
 };
-use hv_refine::{CallError, Partitions, first_rule};
 use std::alloc::Allocator;
 use std::marker::Model;
 
@@ -50,7 +49,7 @@ impl<A: Allocator> Model for Machine<A> {
     ghost coded = { state_code };
 
     ghost use Rattle.hv_machine.specs.MachineInvariant.{MachineInvariant};
-    ghost use Rattle.hv_refine.specs.Room.{roomless};
+    ghost use Rattle.hv_admit.specs.Room.{roomless};
 
     ghost view = { λ m. record {
       rows = roomless m.tree;

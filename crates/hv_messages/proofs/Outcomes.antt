@@ -6,8 +6,8 @@ use Rattle.hv_calls.specs.declared.call.Call.TheVariants.{PostMessage, SignalEve
 use Rattle.hv_defs.specs.declared.aim.Aim.TheVariants.{One, Any}
 use Rattle.hv_defs.specs.declared.port_kind.PortKind.{PortKind}
 use Rattle.hv_defs.specs.declared.port_kind.PortKind.TheVariants as port_type
-use Rattle.hv_effect.specs.Effect.{Tells}
-use Rattle.hv_effect.specs.declared.effect.Effect.{Effect}
+use Rattle.hv_admit.specs.Effect.{Tells}
+use Rattle.hv_admit.specs.declared.effect.Effect.{Effect}
 use Rattle.hv_mail.specs.Mail.{count_of}
 use Rattle.hv_mail.specs.declared.message.Message.{Message}
 use Rattle.hv_partition.specs.Partition.{PartitionState, with_vp_of}
@@ -25,13 +25,13 @@ use Rattle.hv_policy.specs.Mail.{kept_of}
 use Rattle.hv_policy.specs.declared.event.Caller.{Caller}
 use Rattle.hv_ports.specs.declared.ports.Conn.{Conn}
 use Rattle.hv_ports.specs.declared.ports.Port.{Port}
-use Rattle.hv_refine.proofs.PortMessages.{kept_by_any, kept_by_one}
-use Rattle.hv_refine.proofs.ChangedProcessor.{rows_there, vp_in, vp_there}
-use Rattle.hv_refine.proofs.Takers.{lowest_there, taker_there}
-use Rattle.hv_refine.proofs.UnchangedProcessor.{vp_kept}
-use Rattle.hv_refine.specs.Done.{HasServed}
-use Rattle.hv_refine.specs.Served.{TreeInvariant, unmet_further}
-use Rattle.hv_refine.specs.Tie.{Refines, here, mail_row, port_row_of, rows_of, sint_mail, vp_row_of}
+use Rattle.hv_admit.proofs.PortMessages.{kept_by_any, kept_by_one}
+use Rattle.hv_admit.proofs.ChangedProcessor.{rows_there, vp_in, vp_there}
+use Rattle.hv_admit.proofs.Takers.{lowest_there, taker_there}
+use Rattle.hv_admit.proofs.UnchangedProcessor.{vp_kept}
+use Rattle.hv_admit.specs.Done.{HasServed}
+use Rattle.hv_admit.specs.Served.{TreeInvariant, unmet_further}
+use Rattle.hv_admit.specs.Tie.{Refines, here, mail_row, port_row_of, rows_of, sint_mail, vp_row_of}
 use Rattle.hv_tree.specs.Rows.{Row, Rows, change, content}
 use Rattle.hv_vp.specs.Vps.{is_ready, kept_by_all, lowest}
 use Rattle.hv_vp.specs.Vp.{VpState}

@@ -8,16 +8,16 @@ use Rattle.std.proofs.lemmas.Nat.Bits.{bit_at-pow_other, bit_at-pow_same}
 use Rattle.std.specs.FinSet as set
 use Rattle.std.specs.List.{list_any}
 use Rattle.hv_defs.specs.Vectors.{raised}
-use Rattle.hv_effect.proofs.PostEffect.{post_shows, post_waits}
-use Rattle.hv_effect.proofs.SlotAndVectorEffects.{cleared_again, cleared_shown}
-use Rattle.hv_effect.specs.Effect.{Tells, has_bit, quiet}
-use Rattle.hv_effect.specs.declared.effect.Effect.TheVariants as effect
+use Rattle.hv_admit.proofs.PostEffect.{post_shows, post_waits}
+use Rattle.hv_admit.proofs.SlotAndVectorEffects.{cleared_again, cleared_shown}
+use Rattle.hv_admit.specs.Effect.{Tells, has_bit, quiet}
+use Rattle.hv_admit.specs.declared.effect.Effect.TheVariants as effect
 use Rattle.hv_mail.specs.Mail.{SintMail, at, has_next, with_last}
 use Rattle.hv_mail.specs.declared.message.Message.{Message}
 use Rattle.hv_policy.specs.Effect.{post}
 use Rattle.hv_policy.specs.Flat.{Flat}
 use Rattle.hv_policy.specs.Mail.{Place, cleared, is_shown, mail_at, shown_at}
-use Rattle.hv_refine.specs.Tie.{here, mail_row, rows_of, vp_row_of}
+use Rattle.hv_admit.specs.Tie.{here, mail_row, rows_of, vp_row_of}
 use Rattle.hv_vp.specs.Vp.{VpState}
 use Rattle.hv_messages.specs.Processor.{HasState}
 

@@ -6,7 +6,7 @@ use Rattle.hv_defs.specs.Vectors.{highest, without}
 use Rattle.hv_mail.specs.Mail.{at}
 use Rattle.hv_policy.specs.Flat.{Flat, VpRow}
 use Rattle.hv_policy.specs.Mail.{mail_at}
-use Rattle.hv_refine.specs.Tie.{here, rows_of, vp_row_of}
+use Rattle.hv_admit.specs.Tie.{here, rows_of, vp_row_of}
 use Rattle.hv_vp.specs.Vp.{VpState}
 
 -- the flat state has a processor in this state, with its messages

@@ -12,8 +12,8 @@ use Rattle.hv_policy.specs.declared.rule.Rule.TheVariants as rule
 use Rattle.hv_calls.specs.declared.call.Call.{Call}
 use Rattle.hv_messages.specs.declared.aims.Aimed.{Aimed}
 use Rattle.hv_partition.specs.Partition.{PartitionState}
-use Rattle.hv_refine.specs.Asked.{IsGranted}
-use Rattle.hv_refine.specs.Tie.{Refines, conn_row_of, port_row_of}
+use Rattle.hv_admit.specs.Asked.{IsGranted}
+use Rattle.hv_admit.specs.Tie.{Refines, conn_row_of, port_row_of}
 use Rattle.hv_tree.specs.Rows.{Rows}
 use Rattle.hv_ports.specs.declared.ports.Conn.{Conn}
 use Rattle.hv_ports.specs.declared.ports.Port.{Port}

@@ -5,16 +5,16 @@ ghost use Rattle.hv_partition.specs.Partition.{PartitionState};
 ghost use Rattle.hv_policy.specs.Flat.{Flat};
 ghost use Rattle.hv_policy.specs.Met.{has_message_room as has_message_room_of};
 ghost use Rattle.hv_policy.specs.Rules.{first_unmet};
-ghost use Rattle.hv_refine.specs.Served.{TreeInvariant};
-ghost use Rattle.hv_refine.specs.Tie.{Refines, conn_row_of, port_row_of};
+ghost use Rattle.hv_admit.specs.Served.{TreeInvariant};
+ghost use Rattle.hv_admit.specs.Tie.{Refines, conn_row_of, port_row_of};
 ghost use Rattle.hv_tree.specs.Rows.{Rows, content};
 ghost use Rattle.hv_messages.specs.ResolvedPort.{IsReached, aim_row, reach_asks, taker_of};
 
+use hv_admit::{Partitions, has_target};
 use hv_defs::{Aim, MAX_MESSAGES, PortKind};
 use hv_partition::Partition;
 use hv_policy::Rule;
 use hv_ports::{Conn, Port};
-use hv_refine::{Partitions, has_target};
 use std::alloc::Allocator;
 
 /// A resolved connection: the connection itself, and the port with the id that it keeps.

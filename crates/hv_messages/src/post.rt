@@ -5,22 +5,21 @@ ghost use Rattle.hv_calls.specs.declared.call.Call.TheVariants as call;
 ghost use Rattle.hv_defs.specs.declared.port_kind.PortKind.TheVariants as port_type;
 ghost use Rattle.hv_policy.specs.Flat.{Flat};
 ghost use Rattle.hv_policy.specs.Met.{is_kind};
-ghost use Rattle.hv_refine.specs.Done.{IsDone};
-ghost use Rattle.hv_refine.specs.Served.{TreeInvariant, unmet_further};
-ghost use Rattle.hv_refine.specs.Tie.{Refines};
+ghost use Rattle.hv_admit.specs.Done.{IsDone};
+ghost use Rattle.hv_admit.specs.Served.{TreeInvariant, unmet_further};
+ghost use Rattle.hv_admit.specs.Tie.{Refines};
 ghost use Rattle.hv_tree.specs.Rows.{content};
 ghost use Rattle.hv_messages.specs.ResolvedPort.{IsAimed, MayDeliver};
 
 use crate::aims::{Aimed, has_message_room, resolve_connection, select_vp};
 use crate::effects::posted;
+use hv_admit::{Effect, Partitions};
 use hv_calls::Payload;
 use hv_defs::PortKind;
-use hv_effect::Effect;
 use hv_mail::Message;
 use hv_partition::Partition;
 use hv_policy::Rule;
 use hv_ports::Port;
-use hv_refine::Partitions;
 use std::alloc::{AllocError, Allocator};
 
 /// Checks P16 to P23, and returns where the message goes.
@@ -68,7 +67,7 @@ fn is_for_messages(port: Port) -> bool
 /// The SINT is that of the processor at which the port aims, or for `Aim::Any` of the lowest processor
 /// that is ready for messages. The message goes behind those already at the SINT. If the SINT shows none,
 /// it then shows its oldest message and raises its vector.
-#[tactic(auto, using(hv_tree::proofs::Laws::unchanged, hv_refine::proofs::UnchangedProcessor::same_vp))]
+#[tactic(auto, using(hv_tree::proofs::Laws::unchanged, hv_admit::proofs::UnchangedProcessor::same_vp))]
 pub fn do_post<A: Allocator + Clone>(
     tree: &mut Partitions<A>,
     caller: u64,

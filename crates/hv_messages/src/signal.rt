@@ -4,20 +4,19 @@ ghost use Rattle.hv_calls.specs.declared.call.Call.TheVariants as call;
 ghost use Rattle.hv_defs.specs.declared.port_kind.PortKind.TheVariants as port_type;
 ghost use Rattle.hv_policy.specs.Flat.{Flat};
 ghost use Rattle.hv_policy.specs.Met.{is_kind};
-ghost use Rattle.hv_refine.specs.Done.{HasServed};
-ghost use Rattle.hv_refine.specs.Served.{unmet_further};
-ghost use Rattle.hv_refine.specs.Tie.{Refines};
+ghost use Rattle.hv_admit.specs.Done.{HasServed};
+ghost use Rattle.hv_admit.specs.Served.{unmet_further};
+ghost use Rattle.hv_admit.specs.Tie.{Refines};
 ghost use Rattle.hv_tree.specs.Rows.{content};
 ghost use Rattle.hv_messages.specs.ResolvedPort.{IsAimed, MayDeliver};
 
 use crate::aims::{Aimed, resolve_connection, select_vp};
 use crate::effects::signalled;
+use hv_admit::{Effect, Partitions};
 use hv_defs::PortKind;
-use hv_effect::Effect;
 use hv_partition::Partition;
 use hv_policy::Rule;
 use hv_ports::Port;
-use hv_refine::Partitions;
 use std::alloc::Allocator;
 
 /// Checks P16 to P22, and returns where the flag is.

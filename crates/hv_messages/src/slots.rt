@@ -3,14 +3,13 @@ ghost use Rattle.std.specs.Prelude.{◌≡◌, []};
 ghost use Rattle.std.specs.Result.{result_map_both};
 ghost use Rattle.hv_policy.specs.Flat.{Flat};
 ghost use Rattle.hv_policy.specs.declared.event.Action.TheVariants as action;
-ghost use Rattle.hv_refine.specs.Access.{IsAnswered};
-ghost use Rattle.hv_refine.specs.Tie.{Refines};
+ghost use Rattle.hv_admit.specs.Access.{IsAnswered};
+ghost use Rattle.hv_admit.specs.Tie.{Refines};
 
 use crate::effects::slot_cleared;
+use hv_admit::{Effect, Partitions, caller_vp};
 use hv_defs::SINTS;
-use hv_effect::Effect;
 use hv_policy::{Caller, Output, Rule};
-use hv_refine::{Partitions, caller_vp};
 use std::alloc::Allocator;
 
 /// Reads the message slot of one of the caller's SINTs. The output is 256 bytes.

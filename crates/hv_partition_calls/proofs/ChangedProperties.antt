@@ -6,8 +6,8 @@ use Rattle.hv_policy.specs.Flat.{Flat}
 use Rattle.hv_policy.specs.declared.property.Property.{Property}
 use Rattle.hv_policy.specs.declared.property.Property.TheVariants.{PrivilegeFlags, CpuReserve, CpuCap, CpuWeight}
 use Rattle.hv_privs.specs.Privileges.{of}
-use Rattle.hv_refine.proofs.ChangedPartition.{changed_tied}
-use Rattle.hv_refine.specs.Tie.{Refines}
+use Rattle.hv_admit.proofs.ChangedPartition.{changed_tied}
+use Rattle.hv_admit.specs.Tie.{Refines}
 use Rattle.hv_tree.specs.Rows.{Rows, change}
 use Rattle.hv_partition_calls.specs.Given.{given}
 

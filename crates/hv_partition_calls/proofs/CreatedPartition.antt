@@ -10,9 +10,9 @@ use Rattle.hv_policy.specs.Flat.{Flat}
 use Rattle.hv_privs.specs.Privileges.{restrict}
 use Rattle.hv_privs.specs.declared.Privileges.{Privileges}
 use Rattle.hv_privs.specs.declared.TheConstants.Privileges as privilege
-use Rattle.hv_refine.proofs.ChangedPartition.{same_shows}
-use Rattle.hv_refine.proofs.FoundRow.{content_row}
-use Rattle.hv_refine.specs.Tie.{Refines, PartitionRelation, conn_row_of, here, holds, part_row, port_row_of, rows_of, sint_mail, vp_row_of}
+use Rattle.hv_admit.proofs.ChangedPartition.{same_shows}
+use Rattle.hv_admit.proofs.FoundRow.{content_row}
+use Rattle.hv_admit.specs.Tie.{Refines, PartitionRelation, conn_row_of, here, holds, part_row, port_row_of, rows_of, sint_mail, vp_row_of}
 use Rattle.hv_tree.specs.Rows.{Row, Rows, content}
 use Rattle.hv_vp.specs.Vp.{VpState}
 

@@ -11,8 +11,8 @@ use Rattle.hv_defs.proofs.Maps.{get_at-remove, get-mapped}
 use Rattle.hv_ports.specs.declared.ports.Conn.{Conn}
 use Rattle.hv_ports.specs.declared.ports.Port.{Port}
 use Rattle.hv_tree.specs.Rows.{Row, Rows}
-use Rattle.hv_refine.proofs.StateInvariant.{UsesNothing}
-use Rattle.hv_refine.specs.Tie.{Refines, PartitionRelation, conn_row_of, here, is_held, holds, port_row_of, rows_of, sint_mail, vp_row_of}
+use Rattle.hv_admit.proofs.StateInvariant.{UsesNothing}
+use Rattle.hv_admit.specs.Tie.{Refines, PartitionRelation, conn_row_of, here, is_held, holds, port_row_of, rows_of, sint_mail, vp_row_of}
 use Rattle.hv_vp.specs.Vp.{VpState}
 use Rattle.hv_partition_calls.specs.Change.{new_owner_of}
 

@@ -5,7 +5,7 @@ use Rattle.hv_partition.specs.Partition.{PartitionState}
 use Rattle.hv_policy.specs.Count.{parent_of, one_more, depth_within, depth}
 use Rattle.hv_policy.specs.Flat.{Flat}
 use Rattle.hv_tree.specs.Rows.{Row, Rows, parent, HasDepth}
-use Rattle.hv_refine.specs.Tie.{Refines, part_row}
+use Rattle.hv_admit.specs.Tie.{Refines, part_row}
 
 parent_in : (r : Option (Row PartitionState)) → option_and_then (λ row. row.parent) (option_map part_row r) ≡ option_and_then (λ r. r.0) r
 parent_in None = refl

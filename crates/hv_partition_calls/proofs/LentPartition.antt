@@ -9,7 +9,7 @@ use Rattle.hv_tree.proofs.ChildLaws.{count-change}
 use Rattle.hv_defs.proofs.Maps.{get_at-insert, get_at-remove}
 use Rattle.hv_tree.proofs.Laws.{parent-change}
 use Rattle.hv_tree.specs.Rows.{Row, Rows, children, content, parent, is_leaf, change, changed_at}
-use Rattle.hv_refine.proofs.FoundRow.{content_row}
+use Rattle.hv_admit.proofs.FoundRow.{content_row}
 use Rattle.hv_partition_calls.proofs.DeletedPartition.{IsDeleted}
 use Rattle.hv_partition_calls.proofs.Needs.{IsEnding}
 use Rattle.hv_partition_calls.specs.Change.{HasRoom, HasTakenOver, MayTakeOver, new_owner_of}

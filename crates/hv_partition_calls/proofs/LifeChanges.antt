@@ -9,8 +9,8 @@ use Rattle.hv_policy.specs.Effect.{with_row, rows_but}
 use Rattle.hv_defs.specs.Flags.{pair_cmp}
 use Rattle.hv_policy.specs.Flat.{Flat, PartRow}
 use Rattle.hv_policy.specs.Mail.{mail_but}
-use Rattle.hv_refine.proofs.ChangedPartition.{changed_tied, holds_alike, same_shows}
-use Rattle.hv_refine.specs.Tie.{Refines, PartitionRelation, conn_row_of, here, part_row, port_row_of, rows_of, sint_mail, vp_row_of}
+use Rattle.hv_admit.proofs.ChangedPartition.{changed_tied, holds_alike, same_shows}
+use Rattle.hv_admit.specs.Tie.{Refines, PartitionRelation, conn_row_of, here, part_row, port_row_of, rows_of, sint_mail, vp_row_of}
 use Rattle.hv_tree.proofs.Laws.{get-change}
 use Rattle.hv_tree.specs.Rows.{Row, Rows, change}
 use Rattle.hv_vp.specs.Vp.{VpState}

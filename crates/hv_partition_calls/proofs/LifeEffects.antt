@@ -13,10 +13,10 @@ use Rattle.hv_calls.specs.declared.call.Call.TheVariants.{DeletePartition, Final
 use Rattle.hv_defs.proofs.Maps.{get_at-remove}
 use Rattle.hv_defs.specs.Flags.{pair_cmp}
 use Rattle.hv_defs.specs.declared.life.Life.TheVariants.{Finalized}
-use Rattle.hv_effect.proofs.PagesAndVps.{finalized_told, no_pages_told, none_finalized, pages_told, passed_on}
-use Rattle.hv_effect.proofs.ProcessorChange.{still_there}
-use Rattle.hv_effect.specs.Effect.{HasPage, Tells, was_of}
-use Rattle.hv_effect.specs.declared.effect.Effect.TheVariants as variant
+use Rattle.hv_admit.proofs.PagesAndVps.{finalized_told, no_pages_told, none_finalized, pages_told, passed_on}
+use Rattle.hv_admit.proofs.ProcessorChange.{still_there}
+use Rattle.hv_admit.specs.Effect.{HasPage, Tells, was_of}
+use Rattle.hv_admit.specs.declared.effect.Effect.TheVariants as variant
 use Rattle.hv_pages.specs.PageSet.{Pages}
 use Rattle.hv_partition.specs.Partition.{PartitionState, finalized}
 use Rattle.hv_policy.proofs.Rows.{get-with_row}
@@ -24,12 +24,12 @@ use Rattle.hv_policy.specs.Effect.{rows_but, with_row}
 use Rattle.hv_policy.specs.Flat.{ConnRow, Flat, PageRow, PartRow, PortRow}
 use Rattle.hv_policy.specs.Mail.{mail_but}
 use Rattle.hv_policy.specs.Needs.{target_of}
-use Rattle.hv_refine.proofs.MetRules.{admitted_allowed, target_row}
-use Rattle.hv_refine.proofs.FoundRow.{content_row}
-use Rattle.hv_refine.proofs.StateInvariant.{UsesNothing}
-use Rattle.hv_refine.specs.Asked.{IsGranted}
-use Rattle.hv_refine.specs.Done.{HasServed}
-use Rattle.hv_refine.specs.Tie.{Refines, here, holds, is_held, part_row, rows_of, sint_mail, mail_there, vp_row, vp_row_of}
+use Rattle.hv_admit.proofs.MetRules.{admitted_allowed, target_row}
+use Rattle.hv_admit.proofs.FoundRow.{content_row}
+use Rattle.hv_admit.proofs.StateInvariant.{UsesNothing}
+use Rattle.hv_admit.specs.Asked.{IsGranted}
+use Rattle.hv_admit.specs.Done.{HasServed}
+use Rattle.hv_admit.specs.Tie.{Refines, here, holds, is_held, part_row, rows_of, sint_mail, mail_there, vp_row, vp_row_of}
 use Rattle.hv_tree.specs.Rows.{Row, Rows, change, content}
 use Rattle.hv_vp.specs.Vp.{VpState}
 use Rattle.hv_partition_calls.proofs.DeletedPartition.{deleted_tied}

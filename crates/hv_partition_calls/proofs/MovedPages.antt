@@ -5,9 +5,9 @@ use Rattle.std.specs.Cmp.{nat_cmp_total, unsigned_tied}
 use Rattle.std.specs.FinMap.{FinMap, contains_key, get, insert, remove, nat_cmp-IsAntisymmetric, same_map}
 use Rattle.std.specs.Option.{option_map_or}
 use Rattle.std.specs.FinSet as set
-use Rattle.hv_effect.proofs.PagesAndVps.{page_told}
-use Rattle.hv_effect.specs.Effect.{Tells}
-use Rattle.hv_effect.specs.declared.effect.Effect.TheVariants as variant
+use Rattle.hv_admit.proofs.PagesAndVps.{page_told}
+use Rattle.hv_admit.specs.Effect.{Tells}
+use Rattle.hv_admit.specs.declared.effect.Effect.TheVariants as variant
 use Rattle.hv_defs.proofs.Maps.{get_at-insert, get_at-remove}
 use Rattle.hv_pages.specs.PageSet.{Pages, PagesAndRoom}
 use Rattle.hv_partition.specs.Partition.{PartitionState, pages_in, with_pages}
@@ -16,9 +16,9 @@ use Rattle.hv_partition.specs.declared.kind.PageKind.TheVariants.{Loose, Pooled}
 use Rattle.hv_policy.specs.Flat.{Flat, PageRow}
 use Rattle.hv_tree.proofs.Laws.{get-change, change-of, same_rows}
 use Rattle.hv_tree.specs.Rows.{Row, Rows, content, change}
-use Rattle.hv_refine.proofs.PageHolders.{apart_sets, held_alone, held_by_owner}
-use Rattle.hv_refine.specs.Room.{IsSameButRoom, bare}
-use Rattle.hv_refine.specs.Tie.{Refines, PartitionRelation, holds, is_held, part_row}
+use Rattle.hv_admit.proofs.PageHolders.{apart_sets, held_alone, held_by_owner}
+use Rattle.hv_admit.specs.Room.{IsSameButRoom, bare}
+use Rattle.hv_admit.specs.Tie.{Refines, PartitionRelation, holds, is_held, part_row}
 use Rattle.hv_partition_calls.specs.PoolChange.{CanGain, CanHold, HasGained, HasLost, HasPages, MayMove, kind_of, moved_to, pages_at, with_pages_at}
 
 -- a partition that was lent, and its pages of a kind changed

@@ -10,10 +10,10 @@ use Rattle.hv_policy.specs.Flat.{Flat, PartRow}
 use Rattle.hv_policy.specs.Subtree.{LeadsUp, is_in_subtree}
 use Rattle.hv_privs.specs.declared.Privileges.{Privileges}
 use Rattle.hv_partition_calls.specs.Given.{narrowed}
-use Rattle.hv_refine.proofs.ChangedPartition.{holds_alike}
-use Rattle.hv_refine.proofs.StateInvariant.{parents_below}
-use Rattle.hv_refine.specs.Served.{TreeInvariant}
-use Rattle.hv_refine.specs.Tie.{Refines, PartitionRelation, part_row}
+use Rattle.hv_admit.proofs.ChangedPartition.{holds_alike}
+use Rattle.hv_admit.proofs.StateInvariant.{parents_below}
+use Rattle.hv_admit.specs.Served.{TreeInvariant}
+use Rattle.hv_admit.specs.Tie.{Refines, PartitionRelation, part_row}
 use Rattle.hv_tree.proofs.SubtreeLaws.{get-subtree}
 use Rattle.hv_tree.specs.Rows.{Row, Rows, parent}
 use Rattle.hv_tree.specs.Subtree as tree

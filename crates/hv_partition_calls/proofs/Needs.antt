@@ -12,13 +12,13 @@ use Rattle.hv_policy.specs.Met.{is_active}
 use Rattle.hv_policy.specs.Needs.{is_among, target_of}
 use Rattle.hv_policy.specs.declared.need.States.TheVariants as states
 use Rattle.hv_privs.specs.declared.Privileges.{Privileges}
-use Rattle.hv_refine.proofs.MetRules.{admitted_allowed, caller_row, child_row, state_row}
-use Rattle.hv_refine.proofs.CountedRows.{available_counted}
-use Rattle.hv_refine.proofs.FoundRow.{content_row}
-use Rattle.hv_refine.proofs.PageHolders.{apart_sets}
-use Rattle.hv_refine.proofs.StateInvariant.{UsesNothing, few_loose, few_pooled, parents_below, quiet}
-use Rattle.hv_refine.specs.Served.{TreeInvariant}
-use Rattle.hv_refine.specs.Tie.{holds, part_row}
+use Rattle.hv_admit.proofs.MetRules.{admitted_allowed, caller_row, child_row, state_row}
+use Rattle.hv_admit.proofs.CountedRows.{available_counted}
+use Rattle.hv_admit.proofs.FoundRow.{content_row}
+use Rattle.hv_admit.proofs.PageHolders.{apart_sets}
+use Rattle.hv_admit.proofs.StateInvariant.{UsesNothing, few_loose, few_pooled, parents_below, quiet}
+use Rattle.hv_admit.specs.Served.{TreeInvariant}
+use Rattle.hv_admit.specs.Tie.{holds, part_row}
 use Rattle.hv_tree.specs.Rows.{Row, Rows, content, is_leaf, parent}
 use Rattle.hv_partition_calls.specs.Change.{CanInsert, HasFewPages, MayCreate, MayDelete}
 

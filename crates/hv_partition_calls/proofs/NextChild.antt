@@ -9,9 +9,9 @@ use Rattle.hv_partition.specs.Partition.{PartitionState}
 use Rattle.hv_policy.specs.Flat.{Flat, PartRow}
 use Rattle.hv_tree.specs.Rows.{Rows, children, IsLeastAbove, parent as tree_parent}
 use Rattle.hv_tree.proofs.ChildLaws.{parent-child, child-parent}
-use Rattle.hv_refine.proofs.CountedRows.{child_at, named}
-use Rattle.hv_refine.proofs.PageHolders.{two_tests}
-use Rattle.hv_refine.specs.Tie.{Refines}
+use Rattle.hv_admit.proofs.CountedRows.{child_at, named}
+use Rattle.hv_admit.proofs.PageHolders.{two_tests}
+use Rattle.hv_admit.specs.Tie.{Refines}
 
 abbrev pub id_or_0 : Option ℕ → ℕ
 id_or_0 None = 0

@@ -8,9 +8,9 @@ use Rattle.hv_policy.specs.Count.{lowest_pooled, number_of}
 use Rattle.hv_policy.specs.Flat.{Flat, PageRow}
 use Rattle.hv_policy.specs.Met.{is_loose}
 use Rattle.hv_tree.specs.Rows.{Row, Rows}
-use Rattle.hv_refine.proofs.CountedRows.{pooled_at}
+use Rattle.hv_admit.proofs.CountedRows.{pooled_at}
 use Rattle.hv_defs.proofs.Maps.{found_least, found_row}
-use Rattle.hv_refine.specs.Tie.{Refines, is_held, holds}
+use Rattle.hv_admit.specs.Tie.{Refines, is_held, holds}
 
 -- a loose page of a partition is one that it holds so
 pub loose_is_held : (id : ℕ) (page : Option PageRow) → is_loose id page ≡ is_held id false page

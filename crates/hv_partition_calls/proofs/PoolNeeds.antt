@@ -4,11 +4,11 @@ use Rattle.hv_calls.specs.declared.call.Call.TheVariants.{DepositMemory, Withdra
 use Rattle.hv_partition.specs.Partition.{pages_in, PartitionState}
 use Rattle.hv_partition.specs.declared.kind.PageKind.TheVariants.{Loose, Pooled}
 use Rattle.hv_policy.specs.Needs.{target_of}
-use Rattle.hv_refine.proofs.MetRules.{admitted_allowed, caller_row, state_row, target_row}
-use Rattle.hv_refine.proofs.PageHolders.{apart_sets}
-use Rattle.hv_refine.proofs.StateInvariant.{page_below}
-use Rattle.hv_refine.specs.Asked.{IsGranted}
-use Rattle.hv_refine.specs.Tie.{holds}
+use Rattle.hv_admit.proofs.MetRules.{admitted_allowed, caller_row, state_row, target_row}
+use Rattle.hv_admit.proofs.PageHolders.{apart_sets}
+use Rattle.hv_admit.proofs.StateInvariant.{page_below}
+use Rattle.hv_admit.specs.Asked.{IsGranted}
+use Rattle.hv_admit.specs.Tie.{holds}
 use Rattle.hv_tree.specs.Rows.{Rows}
 use Rattle.hv_partition_calls.proofs.PoolLookups.{loose_held, lowest_held}
 use Rattle.hv_partition_calls.specs.PoolChange.{MayMove, MayWithdraw}

@@ -7,16 +7,16 @@ use Rattle.std.specs.FinMap.{get, insert, contains_key}
 use Rattle.std.specs.FinSet as set
 use Rattle.hv_calls.specs.declared.call.Call.TheVariants.{CreatePartition, DeletePartition}
 use Rattle.hv_defs.specs.declared.sizes.TheConstants.{MAX_PAGES}
-use Rattle.hv_effect.specs.declared.effect.Effect.{Effect}
-use Rattle.hv_effect.specs.declared.effect.Effect.TheVariants.{Nothing, Pages}
+use Rattle.hv_admit.specs.declared.effect.Effect.{Effect}
+use Rattle.hv_admit.specs.declared.effect.Effect.TheVariants.{Nothing, Pages}
 use Rattle.hv_pages.specs.PageSet.{IsDisjoint, runs_of}
 use Rattle.hv_partition.specs.Partition.{PartitionState}
 use Rattle.hv_policy.specs.Needs.{target_of}
 use Rattle.hv_privs.specs.Privileges.{restrict}
 use Rattle.hv_privs.specs.declared.Privileges.{Privileges}
 use Rattle.hv_privs.specs.declared.TheConstants.Privileges as privilege
-use Rattle.hv_refine.specs.Asked.{IsGranted}
-use Rattle.hv_refine.specs.Served.{TreeInvariant}
+use Rattle.hv_admit.specs.Asked.{IsGranted}
+use Rattle.hv_admit.specs.Served.{TreeInvariant}
 use Rattle.hv_tree.specs.Rows.{Row, Rows, children, content}
 
 -- precondition of inserting: the parent exists and can count one more child (a count stays below 2^32), and

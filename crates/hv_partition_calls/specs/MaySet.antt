@@ -5,7 +5,7 @@ use Rattle.hv_policy.specs.Effect.{narrows}
 use Rattle.hv_policy.specs.Flat.{Flat}
 use Rattle.hv_policy.specs.Needs.{target_of}
 use Rattle.hv_policy.specs.Property.{property_of}
-use Rattle.hv_refine.specs.Served.{unmet_further}
+use Rattle.hv_admit.specs.Served.{unmet_further}
 use Rattle.hv_partition_calls.specs.declared.set_property.Setting.{Setting}
 
 -- the call's own rules hold, the code is that of the property, and the setting says whether the value narrows

@@ -10,8 +10,8 @@ use Rattle.hv_partition.specs.declared.kind.PageKind.TheVariants.{Loose, Pooled}
 use Rattle.hv_policy.specs.Count.{lowest_pooled}
 use Rattle.hv_policy.specs.Flat.{Flat}
 use Rattle.hv_policy.specs.Needs.{target_of}
-use Rattle.hv_refine.specs.Asked.{IsGranted}
-use Rattle.hv_refine.specs.Tie.{Refines}
+use Rattle.hv_admit.specs.Asked.{IsGranted}
+use Rattle.hv_admit.specs.Tie.{Refines}
 use Rattle.hv_tree.specs.Rows.{Rows, content, change}
 
 -- the kind of pages that are pooled, or not

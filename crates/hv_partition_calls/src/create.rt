@@ -8,18 +8,17 @@ ghost use Rattle.hv_policy.specs.Flat.{Flat};
 ghost use Rattle.hv_policy.specs.Met.{is_depth_left as is_depth_left_of};
 ghost use Rattle.hv_privs.specs.Privileges.{restrict};
 ghost use Rattle.hv_privs.specs.declared.TheConstants.Privileges as privilege;
-ghost use Rattle.hv_refine.specs.Asked.{AreFound};
-ghost use Rattle.hv_refine.specs.Done.{IsDone};
-ghost use Rattle.hv_refine.specs.Served.{TreeInvariant, unmet_further};
-ghost use Rattle.hv_refine.specs.Tie.{Refines};
+ghost use Rattle.hv_admit.specs.Asked.{AreFound};
+ghost use Rattle.hv_admit.specs.Done.{IsDone};
+ghost use Rattle.hv_admit.specs.Served.{TreeInvariant, unmet_further};
+ghost use Rattle.hv_admit.specs.Tie.{Refines};
 ghost use Rattle.hv_partition_calls.specs.Change.{CanInsert, MayCreate};
 
+use hv_admit::{Effect, Found, Partitions, balance_of};
 use hv_defs::{Life, MAX_DEPTH};
-use hv_effect::Effect;
 use hv_partition::Partition;
 use hv_policy::{Output, Rule};
 use hv_privs::Privileges;
-use hv_refine::{Found, Partitions, balance_of};
 use hv_tree::{IdTree, InsertRefused};
 use std::alloc::{AllocError, Allocator};
 

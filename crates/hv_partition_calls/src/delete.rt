@@ -6,18 +6,17 @@ ghost use Rattle.hv_calls.specs.declared.call.Call.TheVariants as call;
 ghost use Rattle.hv_pages.specs.PageSet.{runs_of};
 ghost use Rattle.hv_partition.specs.Partition.{PartitionState};
 ghost use Rattle.hv_policy.specs.Flat.{Flat};
-ghost use Rattle.hv_refine.specs.Asked.{AreFound};
-ghost use Rattle.hv_refine.specs.Done.{IsDone};
-ghost use Rattle.hv_refine.specs.Served.{unmet_further};
-ghost use Rattle.hv_refine.specs.Tie.{Refines};
+ghost use Rattle.hv_admit.specs.Asked.{AreFound};
+ghost use Rattle.hv_admit.specs.Done.{IsDone};
+ghost use Rattle.hv_admit.specs.Served.{unmet_further};
+ghost use Rattle.hv_admit.specs.Tie.{Refines};
 ghost use Rattle.hv_tree.specs.Rows.{Rows};
 ghost use Rattle.hv_partition_calls.specs.Change.{HasFewPages, HasRoom, HasTakenOver, MayDelete, MayTakeOver};
 ghost use Rattle.hv_partition_calls.specs.Change.{effect_of_pages};
 
-use hv_effect::Effect;
+use hv_admit::{Effect, Found, Partitions, resolve_partition_id};
 use hv_partition::{PageKind, Partition};
 use hv_policy::Rule;
-use hv_refine::{Found, Partitions, resolve_partition_id};
 use hv_tree::IdTree;
 use std::alloc::{AllocError, Allocator};
 

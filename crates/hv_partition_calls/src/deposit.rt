@@ -6,17 +6,16 @@ ghost use Rattle.hv_calls.specs.declared.call.Call.TheVariants as call;
 ghost use Rattle.hv_partition.specs.Partition.{PartitionState};
 ghost use Rattle.hv_policy.specs.Flat.{Flat};
 ghost use Rattle.hv_policy.specs.Met.{is_loose as is_loose_of};
-ghost use Rattle.hv_refine.specs.Asked.{AreFound, IsGranted};
-ghost use Rattle.hv_refine.specs.Done.{IsDone};
-ghost use Rattle.hv_refine.specs.Served.{TreeInvariant, unmet_further};
-ghost use Rattle.hv_refine.specs.Tie.{Refines};
+ghost use Rattle.hv_admit.specs.Asked.{AreFound, IsGranted};
+ghost use Rattle.hv_admit.specs.Done.{IsDone};
+ghost use Rattle.hv_admit.specs.Served.{TreeInvariant, unmet_further};
+ghost use Rattle.hv_admit.specs.Tie.{Refines};
 ghost use Rattle.hv_tree.specs.Rows.{Rows, content};
 
 use crate::pages::move_page;
-use hv_effect::Effect;
+use hv_admit::{Effect, Found, Partitions, resolve_partition_id};
 use hv_partition::{PageKind, Partition};
 use hv_policy::Rule;
-use hv_refine::{Found, Partitions, resolve_partition_id};
 use std::alloc::{AllocError, Allocator};
 
 /// Checks P12 and P21.

@@ -6,21 +6,20 @@ ghost use Rattle.std.specs.Result.{result_err};
 ghost use Rattle.hv_calls.specs.declared.call.Call.TheVariants as call;
 ghost use Rattle.hv_partition.specs.Partition.{PartitionState, finalized};
 ghost use Rattle.hv_policy.specs.Flat.{Flat};
-ghost use Rattle.hv_refine.specs.Asked.{AreFound, IsGranted};
-ghost use Rattle.hv_refine.specs.Done.{HasServed};
-ghost use Rattle.hv_refine.specs.Served.{unmet_further};
-ghost use Rattle.hv_refine.specs.Tie.{Refines};
+ghost use Rattle.hv_admit.specs.Asked.{AreFound, IsGranted};
+ghost use Rattle.hv_admit.specs.Done.{HasServed};
+ghost use Rattle.hv_admit.specs.Served.{unmet_further};
+ghost use Rattle.hv_admit.specs.Tie.{Refines};
 ghost use Rattle.hv_tree.specs.Rows.{Rows, change as changed, content};
 ghost use Rattle.hv_partition_calls.specs.Change.{has_vps};
 
-use hv_effect::Effect;
+use hv_admit::{Effect, Found, Partitions, resolve_partition_id};
 use hv_policy::Rule;
-use hv_refine::{Found, Partitions, resolve_partition_id};
 use hv_tree::IdTree;
 use std::alloc::Allocator;
 
 /// Checks P12 and P13.
-#[tactic(auto, using(hv_refine::proofs::CountedRows::children_counted))]
+#[tactic(auto, using(hv_admit::proofs::CountedRows::children_counted))]
 pub fn ask_finalize<A: Allocator>(found: Found<'_, A>) -> Result<(), Rule>
     ensures { (tree : Rows PartitionState) (f : Flat) (by partition : ℕ)
         → AreFound tree by (call.FinalizePartition partition) found.entry.need found.entry.caller.now

@@ -8,16 +8,15 @@ ghost use Rattle.hv_policy.specs.Answer.{value_of};
 ghost use Rattle.hv_policy.specs.Flat.{Flat};
 ghost use Rattle.hv_policy.specs.Needs.{target_of};
 ghost use Rattle.hv_policy.specs.Property.{property_of};
-ghost use Rattle.hv_refine.specs.Asked.{AreFound};
-ghost use Rattle.hv_refine.specs.Done.{HasServed};
-ghost use Rattle.hv_refine.specs.Served.{unmet_further};
-ghost use Rattle.hv_refine.specs.Tie.{Refines};
+ghost use Rattle.hv_admit.specs.Asked.{AreFound};
+ghost use Rattle.hv_admit.specs.Done.{HasServed};
+ghost use Rattle.hv_admit.specs.Served.{unmet_further};
+ghost use Rattle.hv_admit.specs.Tie.{Refines};
 ghost use Rattle.hv_tree.specs.Rows.{Rows, content};
 
-use hv_effect::Effect;
+use hv_admit::{Effect, Found};
 use hv_partition::Partition;
 use hv_policy::{Output, Property, Rule};
-use hv_refine::Found;
 use std::alloc::Allocator;
 
 /// Checks P11, and returns the value of the property with this code. It fails if the profile has none.

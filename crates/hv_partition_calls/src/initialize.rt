@@ -5,16 +5,15 @@ ghost use Rattle.hv_calls.specs.declared.call.Call.TheVariants as call;
 ghost use Rattle.hv_defs.specs.declared.life.Life.TheVariants as life;
 ghost use Rattle.hv_partition.specs.Partition.{PartitionState};
 ghost use Rattle.hv_policy.specs.Flat.{Flat};
-ghost use Rattle.hv_refine.specs.Asked.{AreFound, IsGranted};
-ghost use Rattle.hv_refine.specs.Done.{HasServed};
-ghost use Rattle.hv_refine.specs.Served.{unmet_further};
-ghost use Rattle.hv_refine.specs.Tie.{Refines};
+ghost use Rattle.hv_admit.specs.Asked.{AreFound, IsGranted};
+ghost use Rattle.hv_admit.specs.Done.{HasServed};
+ghost use Rattle.hv_admit.specs.Served.{unmet_further};
+ghost use Rattle.hv_admit.specs.Tie.{Refines};
 ghost use Rattle.hv_tree.specs.Rows.{Rows, change as changed};
 
+use hv_admit::{Effect, Found, Partitions, resolve_partition_id};
 use hv_defs::Life;
-use hv_effect::Effect;
 use hv_policy::Rule;
-use hv_refine::{Found, Partitions, resolve_partition_id};
 use hv_tree::IdTree;
 use std::alloc::Allocator;
 
@@ -32,7 +31,7 @@ pub fn ask_initialize<A: Allocator>(found: Found<'_, A>) -> Result<(), Rule>
 }
 
 /// HvInitializePartition: makes the target Active.
-#[tactic(auto, using(crate::proofs::LifeChanges::activated_tied, hv_effect::proofs::PagesAndVps::untold))]
+#[tactic(auto, using(crate::proofs::LifeChanges::activated_tied, hv_admit::proofs::PagesAndVps::untold))]
 pub fn do_initialize<A: Allocator>(tree: &mut Partitions<A>, caller: u64, partition: u64) -> Effect
     requires { IsGranted tree.old caller (call.InitializePartition partition) }
     ensures { (f : Flat) → Refines tree.old f

@@ -2,7 +2,7 @@
 //! Properties" and "Resource Management").
 //!
 //! Each call has a file of its own, with what is asked and what is done. `ask_x` checks the call's own rules
-//! on the caller and the target that `hv_refine::admit` found, in the policy's order, and returns what the
+//! on the caller and the target that `hv_admit::admit` found, in the policy's order, and returns what the
 //! change needs. `do_x` requires that all rules hold. It reserves room, changes the tree and returns the
 //! effect (`IsDone`). A rep call is served element by element. Setting the mask of an Active partition
 //! changes all rows of its subtree at once.

@@ -5,13 +5,12 @@ ghost use Rattle.hv_calls.specs.declared.call.Call.TheVariants as call;
 ghost use Rattle.hv_policy.specs.Answer.{next_child as next_child_of};
 ghost use Rattle.hv_policy.specs.Flat.{Flat};
 ghost use Rattle.hv_policy.specs.Met.{is_child as is_child_of};
-ghost use Rattle.hv_refine.specs.Done.{HasServed};
-ghost use Rattle.hv_refine.specs.Served.{unmet_further};
-ghost use Rattle.hv_refine.specs.Tie.{Refines};
+ghost use Rattle.hv_admit.specs.Done.{HasServed};
+ghost use Rattle.hv_admit.specs.Served.{unmet_further};
+ghost use Rattle.hv_admit.specs.Tie.{Refines};
 
-use hv_effect::Effect;
+use hv_admit::{Effect, Partitions, resolve_partition_id};
 use hv_policy::{Output, Rule};
-use hv_refine::{Partitions, resolve_partition_id};
 use hv_tree::IdTree;
 use std::alloc::Allocator;
 

@@ -3,11 +3,11 @@ ghost use Rattle.std.specs.Prelude.{◌≡◌, []};
 ghost use Rattle.hv_calls.specs.declared.call.Call.TheVariants as call;
 ghost use Rattle.hv_partition.specs.Partition.{PartitionState};
 ghost use Rattle.hv_policy.specs.Flat.{Flat};
-ghost use Rattle.hv_refine.specs.Done.{HasServed};
-ghost use Rattle.hv_refine.specs.Tie.{Refines};
+ghost use Rattle.hv_admit.specs.Done.{HasServed};
+ghost use Rattle.hv_admit.specs.Tie.{Refines};
 ghost use Rattle.hv_tree.specs.Rows.{Rows};
 
-use hv_effect::Effect;
+use hv_admit::Effect;
 use hv_policy::Output;
 
 /// HvGetPartitionId: outputs the caller's id. It has no rules of its own.

@@ -1,15 +1,15 @@
 // The move of a page that a deposit and a withdrawal make: from one partition to another, or within one.
 ghost use Rattle.std.specs.Prelude.{◌≡◌, IsSome, OnOk, OnErr, not};
-ghost use Rattle.hv_effect.specs.Effect.{Tells};
-ghost use Rattle.hv_effect.specs.declared.effect.Effect.TheVariants as effect;
+ghost use Rattle.hv_admit.specs.Effect.{Tells};
+ghost use Rattle.hv_admit.specs.declared.effect.Effect.TheVariants as effect;
 ghost use Rattle.hv_policy.specs.Flat.{Flat};
-ghost use Rattle.hv_refine.specs.Room.{IsSameButRoom};
-ghost use Rattle.hv_refine.specs.Tie.{Refines};
+ghost use Rattle.hv_admit.specs.Room.{IsSameButRoom};
+ghost use Rattle.hv_admit.specs.Tie.{Refines};
 ghost use Rattle.hv_partition_calls.specs.PoolChange.{CanGain, CanHold, HasGained, HasLost, HasPages};
 ghost use Rattle.hv_partition_calls.specs.PoolChange.{MayMove, kind_of as the_kind, moved_to, pages_at};
 
+use hv_admit::Partitions;
 use hv_partition::{PageKind, Partition};
-use hv_refine::Partitions;
 use std::alloc::{AllocError, Allocator};
 
 // Moves a page of `from` to `to`: from the pool to the loose pages if it is pooled, and from the loose pages

@@ -6,20 +6,19 @@ ghost use Rattle.hv_partition.specs.Partition.{PartitionState};
 ghost use Rattle.hv_policy.specs.Effect.{narrowed as narrowed_parts, narrows as narrows_of, property_set};
 ghost use Rattle.hv_policy.specs.Flat.{Flat};
 ghost use Rattle.hv_policy.specs.Met.{may_give as may_give_of};
-ghost use Rattle.hv_refine.specs.Asked.{AreFound};
-ghost use Rattle.hv_refine.specs.Done.{HasServed};
-ghost use Rattle.hv_refine.specs.Served.{TreeInvariant, unmet_further};
-ghost use Rattle.hv_refine.specs.Tie.{Refines};
+ghost use Rattle.hv_admit.specs.Asked.{AreFound};
+ghost use Rattle.hv_admit.specs.Done.{HasServed};
+ghost use Rattle.hv_admit.specs.Served.{TreeInvariant, unmet_further};
+ghost use Rattle.hv_admit.specs.Tie.{Refines};
 ghost use Rattle.hv_partition_calls.specs.Given.{given};
 ghost use Rattle.hv_partition_calls.specs.MaySet.{MaySet};
 ghost use Rattle.hv_tree.specs.Rows.{Rows, change as changed, content};
 
+use hv_admit::{Effect, Found, Partitions, resolve_partition_id};
 use hv_defs::Life;
-use hv_effect::Effect;
 use hv_partition::Partition;
 use hv_policy::{Property, Rule};
 use hv_privs::Privileges;
-use hv_refine::{Found, Partitions, resolve_partition_id};
 use hv_tree::Edit;
 use std::alloc::Allocator;
 

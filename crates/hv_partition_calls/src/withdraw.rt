@@ -7,18 +7,17 @@ ghost use Rattle.hv_partition.specs.Partition.{PartitionState};
 ghost use Rattle.hv_policy.specs.Count.{lowest_pooled as lowest_pooled_of};
 ghost use Rattle.hv_policy.specs.Flat.{Flat};
 ghost use Rattle.hv_policy.specs.Needs.{target_of};
-ghost use Rattle.hv_refine.specs.Asked.{AreFound};
-ghost use Rattle.hv_refine.specs.Done.{IsDone};
-ghost use Rattle.hv_refine.specs.Served.{unmet_further};
-ghost use Rattle.hv_refine.specs.Tie.{Refines};
+ghost use Rattle.hv_admit.specs.Asked.{AreFound};
+ghost use Rattle.hv_admit.specs.Done.{IsDone};
+ghost use Rattle.hv_admit.specs.Served.{unmet_further};
+ghost use Rattle.hv_admit.specs.Tie.{Refines};
 ghost use Rattle.hv_partition_calls.specs.PoolChange.{MayWithdraw};
 ghost use Rattle.hv_tree.specs.Rows.{Rows, content};
 
 use crate::pages::move_page;
-use hv_effect::Effect;
+use hv_admit::{Effect, Found, Partitions, balance_of, resolve_partition_id};
 use hv_partition::{PageKind, Partition};
 use hv_policy::{Output, Rule};
-use hv_refine::{Found, Partitions, balance_of, resolve_partition_id};
 use std::alloc::{AllocError, Allocator};
 
 /// Checks P24, and returns the page to move: the lowest pooled page of the target.

@@ -9,10 +9,10 @@ use Rattle.hv_defs.specs.Flags.{pair_cmp}
 use Rattle.hv_policy.specs.Flat.{ConnRow, Flat, PortRow}
 use Rattle.hv_ports.specs.declared.ports.Conn.{Conn}
 use Rattle.hv_ports.specs.declared.ports.Port.{Port}
-use Rattle.hv_refine.proofs.FoundRow.{content_row}
-use Rattle.hv_refine.proofs.ChangedLinks.{conns_tied, ports_tied}
-use Rattle.hv_refine.specs.Room.{IsSameButRoom, bare}
-use Rattle.hv_refine.specs.Tie.{Refines, conn_row, conn_row_of, port_row, port_row_of}
+use Rattle.hv_admit.proofs.FoundRow.{content_row}
+use Rattle.hv_admit.proofs.ChangedLinks.{conns_tied, ports_tied}
+use Rattle.hv_admit.specs.Room.{IsSameButRoom, bare}
+use Rattle.hv_admit.specs.Tie.{Refines, conn_row, conn_row_of, port_row, port_row_of}
 use Rattle.hv_tree.proofs.Laws.{change-unchanged}
 use Rattle.hv_tree.specs.Rows.{Rows, change, changed_at, content}
 

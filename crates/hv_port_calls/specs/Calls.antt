@@ -7,8 +7,8 @@ use Rattle.hv_partition.specs.Partition.{PartitionState}
 use Rattle.hv_policy.specs.Effect.{born_of}
 use Rattle.hv_policy.specs.Flat.{Flat}
 use Rattle.hv_policy.specs.Needs.{resolved_id}
-use Rattle.hv_refine.specs.Asked.{IsGranted}
-use Rattle.hv_refine.specs.Tie.{Refines}
+use Rattle.hv_admit.specs.Asked.{IsGranted}
+use Rattle.hv_admit.specs.Tie.{Refines}
 use Rattle.hv_tree.specs.Rows.{Rows}
 use Rattle.hv_port_calls.specs.declared.port_connection.NewConnection.{NewConnection}
 use Rattle.hv_port_calls.specs.declared.port_creation.NewPort.{NewPort}

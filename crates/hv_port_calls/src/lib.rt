@@ -2,7 +2,7 @@
 //! (TLFS 4.0, "Inter-Partition Communication").
 //!
 //! A call is asked, then done. `ask_x` checks the call's own rules on the caller and the target that
-//! `hv_refine::admit` found, in the policy's order, and returns what the change needs. `do_x` requires that
+//! `hv_admit::admit` found, in the policy's order, and returns what the change needs. `do_x` requires that
 //! all rules hold. It reserves room, changes the target and returns the effect (`IsDone`), which names
 //! nothing: an effect has no ports and no connections. No call of this group has output.
 #![tactic(auto)]

@@ -2,18 +2,17 @@
 ghost use Rattle.std.specs.Prelude.{◌≡◌, IfOk, []};
 ghost use Rattle.std.specs.Result.{result_err, result_map_both};
 ghost use Rattle.hv_policy.specs.Flat.{Flat};
-ghost use Rattle.hv_refine.specs.Asked.{AreFound};
-ghost use Rattle.hv_refine.specs.Done.{IsDone};
-ghost use Rattle.hv_refine.specs.Served.{unmet_further};
-ghost use Rattle.hv_refine.specs.Tie.{Refines};
+ghost use Rattle.hv_admit.specs.Asked.{AreFound};
+ghost use Rattle.hv_admit.specs.Done.{IsDone};
+ghost use Rattle.hv_admit.specs.Served.{unmet_further};
+ghost use Rattle.hv_admit.specs.Tie.{Refines};
 ghost use Rattle.hv_port_calls.specs.Calls.{MayConnect, connect_with, port_birth};
 
 use crate::rules::has_conn;
+use hv_admit::{Effect, Found, Partitions, balance_of, resolve_partition_id};
 use hv_defs::PortKind;
-use hv_effect::Effect;
 use hv_policy::Rule;
 use hv_ports::Conn;
-use hv_refine::{Found, Partitions, balance_of, resolve_partition_id};
 use std::alloc::{AllocError, Allocator};
 
 /// The parameters of a new connection, as HvConnectPort has them.

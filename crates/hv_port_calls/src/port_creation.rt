@@ -4,18 +4,17 @@ ghost use Rattle.std.specs.Result.{result_err, result_map_both};
 ghost use Rattle.hv_defs.specs.declared.sizes.TheConstants.{MAX_SERVED};
 ghost use Rattle.hv_policy.specs.Effect.{flags_of as flags_kept};
 ghost use Rattle.hv_policy.specs.Flat.{Flat};
-ghost use Rattle.hv_refine.specs.Asked.{AreFound, IsGranted};
-ghost use Rattle.hv_refine.specs.Done.{IsDone};
-ghost use Rattle.hv_refine.specs.Served.{unmet_further};
-ghost use Rattle.hv_refine.specs.Tie.{Refines};
+ghost use Rattle.hv_admit.specs.Asked.{AreFound, IsGranted};
+ghost use Rattle.hv_admit.specs.Done.{IsDone};
+ghost use Rattle.hv_admit.specs.Served.{unmet_further};
+ghost use Rattle.hv_admit.specs.Tie.{Refines};
 ghost use Rattle.hv_port_calls.specs.Calls.{create_with};
 
 use crate::rules::has_port;
+use hv_admit::{Effect, Found, Partitions, balance_of, has_target, resolve_partition_id};
 use hv_defs::{Aim, PortKind};
-use hv_effect::Effect;
 use hv_policy::Rule;
 use hv_ports::Port;
-use hv_refine::{Found, Partitions, balance_of, has_target, resolve_partition_id};
 use std::alloc::{AllocError, Allocator};
 
 /// The parameters of a new port, as HvCreatePort has them.

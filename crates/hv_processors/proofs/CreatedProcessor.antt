@@ -6,10 +6,10 @@ use Rattle.hv_calls.specs.declared.call.Call.TheVariants.{CreateVp, DeleteVp}
 use Rattle.hv_defs.proofs.Maps.{get_at-insert, get_at-remove}
 use Rattle.hv_defs.specs.declared.life.Life.{Life}
 use Rattle.hv_defs.specs.declared.life.Life.TheVariants.{Created, Active, Finalized}
-use Rattle.hv_effect.proofs.PagesAndVps.{deleted_told, made_told}
-use Rattle.hv_effect.proofs.ProcessorChange.{still_there}
-use Rattle.hv_effect.specs.Effect.{Tells, life_of}
-use Rattle.hv_effect.specs.declared.effect.Effect.TheVariants as variant
+use Rattle.hv_admit.proofs.PagesAndVps.{deleted_told, made_told}
+use Rattle.hv_admit.proofs.ProcessorChange.{still_there}
+use Rattle.hv_admit.specs.Effect.{Tells, life_of}
+use Rattle.hv_admit.specs.declared.effect.Effect.TheVariants as variant
 use Rattle.hv_partition.specs.Partition.{PartitionState}
 use Rattle.hv_policy.proofs.Pairs.{pair_cmp_total}
 use Rattle.hv_policy.proofs.Places.{but_vp_there}
@@ -18,11 +18,11 @@ use Rattle.hv_policy.specs.Flat.{Flat, PartRow}
 use Rattle.hv_policy.specs.Mail.{mail_but_at}
 use Rattle.hv_policy.specs.Needs.{is_among, target_of}
 use Rattle.hv_policy.specs.declared.need.States.TheVariants as states
-use Rattle.hv_refine.proofs.FoundRow.{content_row}
-use Rattle.hv_refine.proofs.ChangedProcessor.{new_mail, rows_there, staff_tied, vp_in, vp_there}
-use Rattle.hv_refine.proofs.MetRules.{admitted_allowed, state_row}
-use Rattle.hv_refine.specs.Asked.{IsGranted}
-use Rattle.hv_refine.specs.Tie.{Refines, here, part_row, rows_of, sint_mail, vp_row_of}
+use Rattle.hv_admit.proofs.FoundRow.{content_row}
+use Rattle.hv_admit.proofs.ChangedProcessor.{new_mail, rows_there, staff_tied, vp_in, vp_there}
+use Rattle.hv_admit.proofs.MetRules.{admitted_allowed, state_row}
+use Rattle.hv_admit.specs.Asked.{IsGranted}
+use Rattle.hv_admit.specs.Tie.{Refines, here, part_row, rows_of, sint_mail, vp_row_of}
 use Rattle.hv_tree.specs.Rows.{Row, Rows, change, changed_at, content}
 use Rattle.hv_vp.specs.Vp.{VpState, new_vp}
 

@@ -12,12 +12,12 @@ use Rattle.hv_defs.specs.Vectors.{VectorSet, raised}
 use Rattle.hv_defs.specs.declared.registers.RegFault.{RegFault}
 use Rattle.hv_defs.specs.declared.registers.TheConstants.{EOM, SCONTROL, SIMP}
 use Rattle.hv_defs.specs.declared.sizes.TheConstants.{SINTS}
-use Rattle.hv_effect.proofs.EndOfMessage.{due_ends}
-use Rattle.hv_effect.proofs.PagesAndVps.{register_untold}
-use Rattle.hv_effect.proofs.ProcessorChange.{there_itself}
-use Rattle.hv_effect.specs.Effect.{Tells, has_bit}
-use Rattle.hv_effect.specs.Ended.{ended_effect, vectors_of}
-use Rattle.hv_effect.specs.declared.effect.Effect.TheVariants as variant
+use Rattle.hv_admit.proofs.EndOfMessage.{due_ends}
+use Rattle.hv_admit.proofs.PagesAndVps.{register_untold}
+use Rattle.hv_admit.proofs.ProcessorChange.{there_itself}
+use Rattle.hv_admit.specs.Effect.{Tells, has_bit}
+use Rattle.hv_admit.specs.Ended.{ended_effect, vectors_of}
+use Rattle.hv_admit.specs.declared.effect.Effect.TheVariants as variant
 use Rattle.hv_mail.specs.Mail.{at, has_next as box_has_next}
 use Rattle.hv_partition.specs.Partition.{PartitionState, with_vp_of}
 use Rattle.hv_policy.specs.Answer.{register_of}
@@ -25,12 +25,12 @@ use Rattle.hv_policy.specs.Aim.{is_ready_for_messages, on_vp}
 use Rattle.hv_policy.specs.Effect.{end_if, with_vp, write_register, written as row_written}
 use Rattle.hv_policy.specs.Flat.{Flat}
 use Rattle.hv_policy.specs.Mail.{has_next, is_shown, is_some_row}
-use Rattle.hv_refine.proofs.MailRows.{has_next_box}
-use Rattle.hv_refine.proofs.ChangedProcessorMail.{written_tied}
-use Rattle.hv_refine.proofs.ChangedProcessor.{get-state_changed, rows_there, vp_in, vp_there}
-use Rattle.hv_refine.proofs.UnchangedProcessor.{vp_kept}
-use Rattle.hv_refine.specs.Tie.{Refines, here, rows_of, sint_mail, vp_row_of}
-use Rattle.hv_refine.specs.Vp.{state_changed, with_state_of}
+use Rattle.hv_admit.proofs.MailRows.{has_next_box}
+use Rattle.hv_admit.proofs.ChangedProcessorMail.{written_tied}
+use Rattle.hv_admit.proofs.ChangedProcessor.{get-state_changed, rows_there, vp_in, vp_there}
+use Rattle.hv_admit.proofs.UnchangedProcessor.{vp_kept}
+use Rattle.hv_admit.specs.Tie.{Refines, here, rows_of, sint_mail, vp_row_of}
+use Rattle.hv_admit.specs.Vp.{state_changed, with_state_of}
 use Rattle.hv_tree.proofs.Laws.{get-change}
 use Rattle.hv_tree.specs.Rows.{Row, Rows, change, changed_at, content}
 use Rattle.hv_vp.specs.Registers.{found, read_of}

@@ -4,16 +4,15 @@ ghost use Rattle.std.specs.Result.{result_err, result_map_both};
 ghost use Rattle.hv_calls.specs.declared.call.Call.TheVariants as call;
 ghost use Rattle.hv_partition.specs.Partition.{PartitionState};
 ghost use Rattle.hv_policy.specs.Flat.{Flat};
-ghost use Rattle.hv_refine.specs.Asked.{AreFound, IsGranted};
-ghost use Rattle.hv_refine.specs.Done.{IsDone};
-ghost use Rattle.hv_refine.specs.Served.{unmet_further};
-ghost use Rattle.hv_refine.specs.Tie.{Refines};
+ghost use Rattle.hv_admit.specs.Asked.{AreFound, IsGranted};
+ghost use Rattle.hv_admit.specs.Done.{IsDone};
+ghost use Rattle.hv_admit.specs.Served.{unmet_further};
+ghost use Rattle.hv_admit.specs.Tie.{Refines};
 ghost use Rattle.hv_tree.specs.Rows.{Rows};
 
+use hv_admit::{Effect, Found, Partitions, balance_of, has_vp, resolve_partition_id};
 use hv_defs::MAX_VPS;
-use hv_effect::Effect;
 use hv_policy::Rule;
-use hv_refine::{Found, Partitions, balance_of, has_vp, resolve_partition_id};
 use hv_vp::Vp;
 use std::alloc::{AllocError, Allocator};
 

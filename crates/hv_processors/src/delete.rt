@@ -4,15 +4,14 @@ ghost use Rattle.std.specs.Result.{result_err};
 ghost use Rattle.hv_calls.specs.declared.call.Call.TheVariants as call;
 ghost use Rattle.hv_partition.specs.Partition.{PartitionState};
 ghost use Rattle.hv_policy.specs.Flat.{Flat};
-ghost use Rattle.hv_refine.specs.Asked.{AreFound, IsGranted};
-ghost use Rattle.hv_refine.specs.Done.{HasServed};
-ghost use Rattle.hv_refine.specs.Served.{unmet_further};
-ghost use Rattle.hv_refine.specs.Tie.{Refines};
+ghost use Rattle.hv_admit.specs.Asked.{AreFound, IsGranted};
+ghost use Rattle.hv_admit.specs.Done.{HasServed};
+ghost use Rattle.hv_admit.specs.Served.{unmet_further};
+ghost use Rattle.hv_admit.specs.Tie.{Refines};
 ghost use Rattle.hv_tree.specs.Rows.{Rows};
 
-use hv_effect::Effect;
+use hv_admit::{Effect, Found, Partitions, has_vp, resolve_partition_id};
 use hv_policy::Rule;
-use hv_refine::{Found, Partitions, has_vp, resolve_partition_id};
 use std::alloc::Allocator;
 
 /// Checks P12 and P19.

@@ -7,16 +7,15 @@ ghost use Rattle.hv_partition.specs.Partition.{PartitionState};
 ghost use Rattle.hv_policy.specs.Answer.{register_of};
 ghost use Rattle.hv_policy.specs.Flat.{Flat};
 ghost use Rattle.hv_policy.specs.Needs.{target_of};
-ghost use Rattle.hv_refine.specs.Asked.{AreFound};
-ghost use Rattle.hv_refine.specs.Done.{HasServed};
-ghost use Rattle.hv_refine.specs.Served.{unmet_further};
-ghost use Rattle.hv_refine.specs.Tie.{Refines};
+ghost use Rattle.hv_admit.specs.Asked.{AreFound};
+ghost use Rattle.hv_admit.specs.Done.{HasServed};
+ghost use Rattle.hv_admit.specs.Served.{unmet_further};
+ghost use Rattle.hv_admit.specs.Tie.{Refines};
 ghost use Rattle.hv_tree.specs.Rows.{Rows};
 
 use crate::register_rules::may_access;
-use hv_effect::Effect;
+use hv_admit::{Effect, Found};
 use hv_policy::{Output, Rule};
-use hv_refine::Found;
 use hv_vp::privilege_of;
 use std::alloc::Allocator;
 

@@ -2,7 +2,7 @@
 //! model-specific registers (TLFS 4.0, "Virtual Processor Management").
 //!
 //! A call is asked, then done; for a rep call, one element at a time. `ask_x` checks the call's own rules on
-//! the caller and the target that `hv_refine::admit` found, in the policy's order. `do_x` requires that all
+//! the caller and the target that `hv_admit::admit` found, in the policy's order. `do_x` requires that all
 //! rules hold. It reserves the room that it needs, changes the tree and returns the effect (`IsDone`). An
 //! access has one public function, which checks P1 to P3 itself (`IsAnswered`).
 #![tactic(auto)]

@@ -5,7 +5,7 @@ ghost use Rattle.hv_partition.specs.Partition.{PartitionState, with_vp_of};
 ghost use Rattle.hv_partition.specs.contracts.partition.Partition.{the_row as partition_row};
 ghost use Rattle.hv_policy.specs.Flat.{Flat};
 ghost use Rattle.hv_policy.specs.Rules.{caller_asks, first_unmet};
-ghost use Rattle.hv_refine.specs.Tie.{Refines};
+ghost use Rattle.hv_admit.specs.Tie.{Refines};
 ghost use Rattle.hv_tree.specs.Rows.{Rows, change, content};
 ghost use Rattle.hv_tree.specs.contracts.tree.IdTree.{the_row as tree_row};
 ghost use Rattle.hv_vp.specs.contracts.vp.Vp.{the_row as vp_row};
@@ -13,10 +13,10 @@ ghost use Rattle.hv_processors.specs.Asked.{msr_asks};
 ghost use Rattle.hv_processors.specs.Place.{vp_at};
 
 use crate::register_rules::may_access;
+use hv_admit::Partitions;
 use hv_defs::Life;
 use hv_policy::{Caller, Rule};
 use hv_privs::Privileges;
-use hv_refine::Partitions;
 use hv_vp::{Vp, privilege_of};
 use std::alloc::Allocator;
 

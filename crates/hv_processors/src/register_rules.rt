@@ -4,7 +4,7 @@ ghost use Rattle.hv_defs.specs.declared.registers.RegisterRow.{RegisterRow};
 ghost use Rattle.hv_partition.specs.Partition.{PartitionState};
 ghost use Rattle.hv_policy.specs.Flat.{Flat};
 ghost use Rattle.hv_policy.specs.Met.{may_access as may_access_of};
-ghost use Rattle.hv_refine.specs.Tie.{Refines};
+ghost use Rattle.hv_admit.specs.Tie.{Refines};
 ghost use Rattle.hv_tree.specs.Rows.{Rows, content};
 
 use hv_privs::Privileges;

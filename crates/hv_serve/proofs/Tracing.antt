@@ -7,7 +7,7 @@ use Rattle.std.proofs.Math.Seq.{take-append_seam}
 use Rattle.std.proofs.lemmas.List.{drop_all}
 use Rattle.std.proofs.lemmas.List.Elements.{All-nil}
 use Rattle.hv_abi.specs.declared.frame.Frame.{Frame}
-use Rattle.hv_effect.specs.declared.effect.Effect.{Effect}
+use Rattle.hv_admit.specs.declared.effect.Effect.{Effect}
 use Rattle.hv_explain.proofs.AskedActions.{HasBegun, begun_ends, begun_more, begun_none}
 use Rattle.hv_explain.proofs.WrittenLines.{told_one}
 use Rattle.hv_explain.specs.Written.{AreTold, HasHappened, HasPut, HasWritten, entry_of}

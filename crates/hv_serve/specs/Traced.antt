@@ -2,7 +2,7 @@
 use Rattle.std.specs.Prelude.{ℕ, ◌≡◌, ◌<◌, ◌++◌, List, length, true, Option, None, Some}
 use Rattle.std.specs.declared.alloc.Global.{Global}
 use Rattle.hv_abi.specs.declared.frame.Frame.{Frame}
-use Rattle.hv_effect.specs.declared.effect.Effect.{Effect}
+use Rattle.hv_admit.specs.declared.effect.Effect.{Effect}
 use Rattle.hv_explain.specs.Written.{HasWritten, HasWrittenElement, HasWrittenOne, entry_of}
 use Rattle.hv_history.specs.Kept.{Kept}
 use Rattle.hv_history.specs.declared.entry.Entry.{Entry}

@@ -9,7 +9,7 @@ ghost use Rattle.hv_serve.specs.Traced.{HasAdded, HasTakenOne, HasTakenElement, 
 ghost use Rattle.hv_threads.specs.Acted.{HasTried};
 
 use hv_abi::Frame;
-use hv_effect::Effect;
+use hv_admit::Effect;
 use hv_explain::happen;
 use hv_history::{HostRefused, Kept, next_of};
 use hv_policy::{Action, Caller, Reply};

@@ -13,11 +13,11 @@ use Rattle.hv_machine.specs.IsFlat.{IsFlat}
 use Rattle.hv_machine.specs.State.{State}
 use Rattle.hv_partition.specs.Partition.{PartitionState}
 use Rattle.hv_policy.specs.Flat.{Flat, PageRow, PartRow}
-use Rattle.hv_refine.proofs.CountedRows.{conns_counted, pool_counted, ports_counted, use_counted, vps_counted}
-use Rattle.hv_refine.proofs.PageHolders.{held_by_owner}
-use Rattle.hv_refine.proofs.RoomIsNoState.{tied_roomless}
-use Rattle.hv_refine.specs.Room.{roomless}
-use Rattle.hv_refine.specs.Tie.{Refines, holds, is_held, part_row}
+use Rattle.hv_admit.proofs.CountedRows.{conns_counted, pool_counted, ports_counted, use_counted, vps_counted}
+use Rattle.hv_admit.proofs.PageHolders.{held_by_owner}
+use Rattle.hv_admit.proofs.RoomIsNoState.{tied_roomless}
+use Rattle.hv_admit.specs.Room.{roomless}
+use Rattle.hv_admit.specs.Tie.{Refines, holds, is_held, part_row}
 use Rattle.hv_tree.proofs.ChildLaws.{unfound}
 use Rattle.hv_tree.specs.Rows.{Row, Rows, children}
 use Rattle.hv_text.specs.Rows.{kept_counts, pages_in, row_line, rows_text}

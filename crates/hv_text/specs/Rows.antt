@@ -3,7 +3,7 @@ use Rattle.std.specs.Prelude.{ℕ, ◌+◌, List, [], ◌∷◌, length, map}
 use Rattle.std.specs.FinMap as map
 use Rattle.std.specs.FinSet as set
 use Rattle.hv_partition.specs.Partition.{PartitionState, in_use}
-use Rattle.hv_refine.specs.Tie.{part_row}
+use Rattle.hv_admit.specs.Tie.{part_row}
 use Rattle.hv_tree.specs.Rows.{Row, Rows, children}
 use Rattle.hv_text.specs.Table.{Counts, Line, text_of}
 

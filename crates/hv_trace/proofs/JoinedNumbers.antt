@@ -6,7 +6,7 @@ use Rattle.std.proofs.KnownBytes.{Appends-nil, Appends-trans}
 use Rattle.std.specs.FinSet as set
 use Rattle.std.specs.Int.{bit_at}
 use Rattle.hv_defs.specs.Vectors.{VectorSet}
-use Rattle.hv_effect.specs.Effect.{has_bit as is_shown}
+use Rattle.hv_admit.specs.Effect.{has_bit as is_shown}
 use Rattle.hv_mail.proofs.Members.{contains-numbers_of}
 use Rattle.hv_mail.specs.Words.{has_bit, numbers_of}
 use Rattle.hv_trace.specs.Effect.{joined, picked}

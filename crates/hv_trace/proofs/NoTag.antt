@@ -16,11 +16,11 @@ use Rattle.hv_abi.specs.declared.call_kind.CallKind.{CallKind}
 use Rattle.hv_abi.specs.declared.call_kind.CallKind.TheVariants as call
 use Rattle.hv_abi.specs.declared.status.Status.{Status}
 use Rattle.hv_abi.specs.declared.status.Status.TheVariants as status
-use Rattle.hv_effect.specs.Effect.{has_bit}
-use Rattle.hv_effect.specs.declared.effect.Effect.{Effect}
-use Rattle.hv_effect.specs.declared.effect.Effect.TheVariants as effect
-use Rattle.hv_effect.specs.declared.effect.FlagChange.{FlagChange}
-use Rattle.hv_effect.specs.declared.effect.Synic.{Synic}
+use Rattle.hv_admit.specs.Effect.{has_bit}
+use Rattle.hv_admit.specs.declared.effect.Effect.{Effect}
+use Rattle.hv_admit.specs.declared.effect.Effect.TheVariants as effect
+use Rattle.hv_admit.specs.declared.effect.FlagChange.{FlagChange}
+use Rattle.hv_admit.specs.declared.effect.Synic.{Synic}
 use Rattle.hv_history.specs.declared.entry.Entry.{Entry}
 use Rattle.hv_policy.specs.Result.{completed_reps}
 use Rattle.hv_policy.specs.Rule.{rule_name}

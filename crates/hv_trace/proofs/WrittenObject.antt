@@ -2,7 +2,7 @@
 use Rattle.std.proofs.Common.{ℕ, List, refl, Option, Result, Ok, Err, OnOk, Global}
 use Rattle.std.specs.Io.KnownBytes.{Appends}
 use Rattle.std.proofs.KnownBytes.{Appends-trans}
-use Rattle.hv_effect.specs.declared.effect.Effect.{Effect}
+use Rattle.hv_admit.specs.declared.effect.Effect.{Effect}
 use Rattle.hv_explain.specs.Written.{HasPut, entry_of}
 use Rattle.hv_policy.specs.declared.event.Action.{Action}
 use Rattle.hv_policy.specs.declared.event.Caller.{Caller}

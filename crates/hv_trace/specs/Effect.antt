@@ -2,11 +2,11 @@
 use Rattle.std.specs.Prelude.{ℕ, zero, suc, ◌∷◌, [], ◌++◌, if◌then◌else◌, Bool, List, Option, None, Some}
 use Rattle.std.specs.Prelude.{codes, decimal}
 use Rattle.std.specs.FinSet as set
-use Rattle.hv_effect.specs.Effect.{has_bit}
-use Rattle.hv_effect.specs.declared.effect.Effect.{Effect}
-use Rattle.hv_effect.specs.declared.effect.Effect.TheVariants as effect
-use Rattle.hv_effect.specs.declared.effect.FlagChange.{FlagChange}
-use Rattle.hv_effect.specs.declared.effect.Synic.{Synic}
+use Rattle.hv_admit.specs.Effect.{has_bit}
+use Rattle.hv_admit.specs.declared.effect.Effect.{Effect}
+use Rattle.hv_admit.specs.declared.effect.Effect.TheVariants as effect
+use Rattle.hv_admit.specs.declared.effect.FlagChange.{FlagChange}
+use Rattle.hv_admit.specs.declared.effect.Synic.{Synic}
 
 -- the numbers below an end that pass a test, rising
 unfoldable pub picked : (ℕ → Bool) → ℕ → List ℕ

@@ -2,7 +2,7 @@
 use Rattle.std.specs.Prelude.{ℕ, ◌≡◌, ◌≢◌, List, ◌++◌, All, Option, codes}
 use Rattle.std.specs.Io.KnownBytes.{Appends}
 use Rattle.std.specs.declared.alloc.Global.{Global}
-use Rattle.hv_effect.specs.declared.effect.Effect.{Effect}
+use Rattle.hv_admit.specs.declared.effect.Effect.{Effect}
 use Rattle.hv_explain.specs.Written.{Telling}
 use Rattle.hv_history.specs.declared.entry.Entry.{Entry}
 use Rattle.hv_trace.specs.Trace.{IsObject}

@@ -8,7 +8,7 @@ use Rattle.hv_abi.specs.Status.{status_name}
 use Rattle.hv_abi.specs.declared.call_kind.CallKind.{CallKind}
 use Rattle.hv_abi.specs.declared.status.Status.{Status}
 use Rattle.hv_abi.specs.declared.status.Status.TheVariants.{Success}
-use Rattle.hv_effect.specs.declared.effect.Effect.{Effect}
+use Rattle.hv_admit.specs.declared.effect.Effect.{Effect}
 use Rattle.hv_explain.specs.Written.{Telling}
 use Rattle.hv_history.specs.declared.entry.Entry.{Entry}
 use Rattle.hv_policy.specs.Result.{completed_reps}

@@ -2,13 +2,13 @@
 ghost use Rattle.std.specs.Prelude.{◌≡◌, ◌*◌, ◌/◌, ◌<◌, ◌≤◌, ◌++◌, codes, decimal, length, OnOk};
 ghost use Rattle.std.specs.FinSet as set;
 ghost use Rattle.std.specs.Io.KnownBytes.{Appends};
-ghost use Rattle.hv_effect.specs.Effect.{has_bit as is_shown};
+ghost use Rattle.hv_admit.specs.Effect.{has_bit as is_shown};
 ghost use Rattle.hv_mail.specs.Words.{has_bit};
 ghost use Rattle.hv_trace.specs.Effect.{array_text, change_text, effect_text, flag_text, gained_text, joined};
 ghost use Rattle.hv_trace.specs.Effect.{lost_text, picked, synic_text};
 
 use crate::put::{put_bool, put_maybe, put_number, put_processor};
-use hv_effect::{Effect, FlagChange, Synic};
+use hv_admit::{Effect, FlagChange, Synic};
 use hv_mail::Pending;
 use std::io;
 use std::io::Write;

@@ -12,7 +12,7 @@ use crate::fields::push_fields;
 use crate::lines::Lines;
 use crate::members::Members;
 use crate::put::{put_number, put_processor, put_text};
-use hv_effect::Effect;
+use hv_admit::Effect;
 use hv_explain::Teller;
 use hv_history::Kept;
 use hv_policy::{Action, Answer, Caller, Reply};

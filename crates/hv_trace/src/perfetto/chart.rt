@@ -3,7 +3,7 @@
 use crate::perfetto::lanes::Lanes;
 use crate::perfetto::note::{Moment, Note};
 use crate::perfetto::slice::put_line;
-use hv_effect::Effect;
+use hv_admit::Effect;
 use hv_explain::Teller;
 use hv_history::Kept;
 use hv_policy::{Action, Caller, Reply};

@@ -3,13 +3,12 @@
 use crate::perfetto::lane::Lane;
 use crate::perfetto::note::{Moment, Note};
 use hv_abi::{CallKind, InputValue};
+use hv_admit::{Effect, FlagChange, Partitions, Synic, resolve_partition_id};
 use hv_calls::Call;
 use hv_defs::ROOT_ID;
-use hv_effect::{Effect, FlagChange, Synic};
 use hv_mail::Pending;
 use hv_partition::PageKind;
 use hv_policy::{Action, Answer, Caller, Reply};
-use hv_refine::{Partitions, resolve_partition_id};
 use hv_words::call_of;
 use indexmap::IndexMap;
 use std::alloc::{AllocError, Global};

@@ -2,7 +2,7 @@
 
 use crate::lines::Lines;
 use crate::object::Tracer;
-use hv_effect::Effect;
+use hv_admit::Effect;
 use hv_explain::Teller;
 use hv_history::Kept;
 use hv_policy::{Action, Caller, Reply};

@@ -4,10 +4,10 @@ use crate::names::kind_name;
 use crate::reasons::registers::push_register_privilege;
 use crate::reasons::tree::{Tree, conn_at, mask_of, port_at, way_of};
 use crate::words::Words;
+use hv_admit::resolve_partition_id;
 use hv_calls::Call;
 use hv_defs::{Aim, MAX_VPS, PortKind, SCONTROL, SIEFP, SIMP};
 use hv_ports::{Conn, Port};
-use hv_refine::resolve_partition_id;
 
 // Adds the value of P15: the other partition.
 pub fn push_other(words: &mut Words, caller: u64, target: u64, call: &Call<'_>) {

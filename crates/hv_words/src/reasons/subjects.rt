@@ -4,11 +4,11 @@ use crate::names::kind_name;
 use crate::reasons::registers::{push_register_value, push_unknown};
 use crate::reasons::tree::{Tree, port_at, way_of};
 use crate::words::Words;
+use hv_admit::resolve_partition_id;
 use hv_calls::Call;
 use hv_defs::{EVENT_FLAGS, PortKind, SINTS};
 use hv_policy::Access;
 use hv_ports::Port;
-use hv_refine::resolve_partition_id;
 
 // Adds the value of P21 for a call.
 pub fn push_subject(words: &mut Words, tree: &Tree, caller: u64, call: &Call<'_>) {

@@ -1,10 +1,10 @@
 // Reading the partitions, for the values of several rules.
 
+use hv_admit::{Partitions, resolve_partition_id};
 use hv_calls::Call;
 use hv_partition::Partition;
 use hv_policy::needs;
 use hv_ports::{Conn, Port};
-use hv_refine::{Partitions, resolve_partition_id};
 use std::alloc::Global;
 
 // The partitions of a machine.

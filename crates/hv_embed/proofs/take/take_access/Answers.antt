@@ -1,6 +1,6 @@
 use Rattle.std.proofs.Common.{◌≡◌, ◌+◌, ℕ, List, [], subst, sym, ap, refl, rules, ◌∙◌, Global}
-use Rattle.hv_effect.specs.Effect.{Tells}
-use Rattle.hv_effect.specs.declared.effect.Effect.{Effect}
+use Rattle.hv_admit.specs.Effect.{Tells}
+use Rattle.hv_admit.specs.declared.effect.Effect.{Effect}
 use Rattle.hv_history.specs.Row.{action_of}
 use Rattle.hv_machine.specs.Access.{access_event}
 use Rattle.hv_machine.specs.IsFlat.{IsFlat}

@@ -1,7 +1,7 @@
 use Rattle.std.proofs.Common.{refl, sym, ap, rules}
 use Rattle.std.proofs.lemmas.Result.{err_from_is_err_and}
 use Rattle.hv_partition_calls.proofs.Needs.{few_pages}
-use Rattle.hv_refine.specs.Served.{unmet_further}
+use Rattle.hv_admit.specs.Served.{unmet_further}
 use Rattle.hv_machine.proofs.Plans.{found_as}
 use Rattle.hv_machine.proofs.dispatch.ask.Goals as goal
 

@@ -1,6 +1,6 @@
 use Rattle.std.proofs.Common.{sym, ◌∙◌}
-use Rattle.hv_effect.proofs.FlagEffects.{clear_again, clear_turns}
-use Rattle.hv_refine.specs.Tie.{vp_row_of}
+use Rattle.hv_admit.proofs.FlagEffects.{clear_again, clear_turns}
+use Rattle.hv_admit.specs.Tie.{vp_row_of}
 use Rattle.hv_messages.proofs.effects.flag_cleared.Goals as goal
 
 pub returns-then-not-was_set : goal.returns-then-not-was_set

@@ -1,6 +1,6 @@
 use Rattle.std.proofs.Common.{sym, ◌∙◌}
-use Rattle.hv_effect.proofs.FlagEffects.{signal_again, signal_turns}
-use Rattle.hv_refine.specs.Tie.{vp_row_of}
+use Rattle.hv_admit.proofs.FlagEffects.{signal_again, signal_turns}
+use Rattle.hv_admit.specs.Tie.{vp_row_of}
 use Rattle.hv_messages.proofs.effects.signalled.Goals as goal
 
 pub returns-then-was_set : goal.returns-then-was_set

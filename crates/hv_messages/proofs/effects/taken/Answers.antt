@@ -1,6 +1,6 @@
 use Rattle.std.proofs.Common.{sym, ◌∙◌}
-use Rattle.hv_effect.proofs.SlotAndVectorEffects.{interrupt_taken, no_interrupt}
-use Rattle.hv_refine.specs.Tie.{vp_row_of}
+use Rattle.hv_admit.proofs.SlotAndVectorEffects.{interrupt_taken, no_interrupt}
+use Rattle.hv_admit.specs.Tie.{vp_row_of}
 use Rattle.hv_messages.proofs.effects.taken.Goals as goal
 
 pub returns-in_default : goal.returns-in_default

@@ -1,6 +1,6 @@
 use Rattle.std.proofs.Common.{rules, refl}
-use Rattle.hv_refine.proofs.UnchangedProcessor.{vp_kept}
-use Rattle.hv_effect.proofs.PagesAndVps.{untold}
+use Rattle.hv_admit.proofs.UnchangedProcessor.{vp_kept}
+use Rattle.hv_admit.proofs.PagesAndVps.{untold}
 use Rattle.hv_policy.specs.declared.event.Action.TheVariants.{ReadFlags}
 use Rattle.hv_messages.proofs.Outcomes.{caller_there, carried, has_state, refused}
 use Rattle.hv_messages.specs.contracts.flags.read_flags.{A-type}

@@ -1,5 +1,5 @@
 use Rattle.std.proofs.Common.{rules}
-use Rattle.hv_refine.proofs.ChangedProcessorMail.{interrupted_tied}
+use Rattle.hv_admit.proofs.ChangedProcessorMail.{interrupted_tied}
 use Rattle.hv_messages.proofs.Outcomes.{caller_there, carried, has_state}
 use Rattle.hv_messages.proofs.interrupts.take_interrupt.Goals as goal
 

@@ -1,7 +1,7 @@
 use Rattle.std.proofs.Common.{rules, refl, ap, Some, ◌∙◌}
 use Rattle.hv_mail.specs.Mail.{at, has_next, with_last}
 use Rattle.hv_mail.specs.declared.message.Message.{Message}
-use Rattle.hv_refine.proofs.ChangedProcessorMail.{posted_tied}
+use Rattle.hv_admit.proofs.ChangedProcessorMail.{posted_tied}
 use Rattle.hv_vp.specs.Vp.{VpState, posted}
 use Rattle.hv_messages.proofs.Outcomes.{aimed_there, carried, has_state, looked_up, post_served}
 use Rattle.hv_messages.proofs.post.do_post.Goals as goal

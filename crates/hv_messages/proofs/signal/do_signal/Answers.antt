@@ -1,5 +1,5 @@
 use Rattle.std.proofs.Common.{rules, refl, ap, ◌+◌, Some}
-use Rattle.hv_refine.proofs.ChangedProcessorMail.{signalled_tied}
+use Rattle.hv_admit.proofs.ChangedProcessorMail.{signalled_tied}
 use Rattle.hv_vp.specs.Vp.{VpState}
 use Rattle.hv_messages.proofs.Outcomes.{aimed_there, carried, has_state, looked_up, signal_served}
 use Rattle.hv_messages.proofs.signal.do_signal.Goals as goal

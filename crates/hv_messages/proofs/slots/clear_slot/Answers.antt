@@ -1,5 +1,5 @@
 use Rattle.std.proofs.Common.{rules, refl}
-use Rattle.hv_refine.proofs.ChangedProcessorMail.{slot_cleared_tied}
+use Rattle.hv_admit.proofs.ChangedProcessorMail.{slot_cleared_tied}
 use Rattle.hv_policy.specs.declared.event.Action.TheVariants.{ClearSlot}
 use Rattle.hv_messages.proofs.Outcomes.{caller_there, carried, has_state, refused}
 use Rattle.hv_messages.specs.contracts.slots.clear_slot.{A-type}

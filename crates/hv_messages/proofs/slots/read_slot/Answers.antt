@@ -2,10 +2,10 @@ use Rattle.std.proofs.Common.{rules, ◌≡◌, ◌<◌, ◌++◌, List, ℕ, ap
 use Rattle.hv_defs.specs.declared.sizes.TheConstants.{SINTS}
 use Rattle.hv_policy.specs.Mail.{slot_at}
 use Rattle.hv_policy.specs.declared.reply.Reply.TheVariants.{Served}
-use Rattle.hv_refine.proofs.ChangedProcessorMail.{slot_told}
-use Rattle.hv_refine.proofs.UnchangedProcessor.{vp_kept}
-use Rattle.hv_refine.specs.Tie.{here}
-use Rattle.hv_effect.proofs.PagesAndVps.{untold}
+use Rattle.hv_admit.proofs.ChangedProcessorMail.{slot_told}
+use Rattle.hv_admit.proofs.UnchangedProcessor.{vp_kept}
+use Rattle.hv_admit.specs.Tie.{here}
+use Rattle.hv_admit.proofs.PagesAndVps.{untold}
 use Rattle.hv_policy.specs.declared.event.Action.TheVariants.{ReadSlot}
 use Rattle.hv_messages.proofs.Outcomes.{caller_there, carried, refused}
 use Rattle.hv_messages.specs.contracts.slots.read_slot.{A-type}

@@ -1,8 +1,8 @@
 use Rattle.std.proofs.Common.{◌++◌, refl, ap, ◌∙◌}
 use Rattle.std.specs.Int.{w64, to_le_bytes}
 use Rattle.hv_calls.specs.declared.call.Call.TheVariants.{GetMemoryBalance}
-use Rattle.hv_effect.proofs.PagesAndVps.{untold}
-use Rattle.hv_refine.proofs.TargetFound.{found_available, found_use}
+use Rattle.hv_admit.proofs.PagesAndVps.{untold}
+use Rattle.hv_admit.proofs.TargetFound.{found_available, found_use}
 use Rattle.hv_partition_calls.proofs.balance.do_balance.Goals as goal
 
 pub returns : goal.returns

@@ -2,7 +2,7 @@ use Rattle.std.proofs.Common.{◌≡◌, true, sym, ap, ◌∙◌, rules}
 use Rattle.hv_calls.specs.declared.call.Call.TheVariants.{CreatePartition}
 use Rattle.hv_policy.specs.Met.{is_depth_left}
 use Rattle.hv_policy.specs.declared.need.Need.{Need}
-use Rattle.hv_refine.proofs.TargetFound.{found_available}
+use Rattle.hv_admit.proofs.TargetFound.{found_available}
 use Rattle.hv_partition_calls.proofs.create.ask_create_partition.Goals as goal
 
 pub returns-then-balance_of-need-clause-unmet : goal.returns-then-balance_of-need-clause-unmet

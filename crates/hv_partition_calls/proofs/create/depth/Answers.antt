@@ -1,4 +1,4 @@
-use Rattle.hv_refine.proofs.StateInvariant.{parents_below}
+use Rattle.hv_admit.proofs.StateInvariant.{parents_below}
 use Rattle.hv_partition_calls.proofs.Depths.{told_depth}
 use Rattle.hv_partition_calls.proofs.create.depth.Goals as goal
 

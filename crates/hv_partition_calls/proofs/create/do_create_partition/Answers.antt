@@ -1,7 +1,7 @@
 use Rattle.std.proofs.Common.{◌≡◌, refl, sym, ap, ◌∙◌, rules}
 use Rattle.std.specs.FinMap.{get}
 use Rattle.hv_defs.specs.declared.life.Life.TheVariants.{Created}
-use Rattle.hv_effect.proofs.PagesAndVps.{untold}
+use Rattle.hv_admit.proofs.PagesAndVps.{untold}
 use Rattle.hv_partition.specs.Partition.{new_partition}
 use Rattle.hv_partition_calls.proofs.CreatedPartition.{created_tied}
 use Rattle.hv_partition_calls.proofs.Needs.{can_insert, free_row}

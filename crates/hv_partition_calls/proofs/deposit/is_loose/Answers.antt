@@ -2,9 +2,9 @@ use Rattle.std.proofs.Common.{◌≡◌, ◌≤◌, inl, inr, sym, ap, ◌∙◌
 use Rattle.std.proofs.lemmas.Bool.{cases_lt}
 use Rattle.hv_pages.specs.PageSet.{PagesAndRoom}
 use Rattle.hv_partition.specs.Partition.{PartitionState}
-use Rattle.hv_refine.proofs.FoundRow.{content_row}
-use Rattle.hv_refine.proofs.StateInvariant.{beyond}
-use Rattle.hv_refine.specs.Tie.{holds}
+use Rattle.hv_admit.proofs.FoundRow.{content_row}
+use Rattle.hv_admit.proofs.StateInvariant.{beyond}
+use Rattle.hv_admit.specs.Tie.{holds}
 use Rattle.hv_partition_calls.proofs.PoolLookups.{loose_held}
 use Rattle.hv_partition_calls.proofs.deposit.is_loose.Goals as goal
 

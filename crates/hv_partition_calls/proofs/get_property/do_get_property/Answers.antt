@@ -1,5 +1,5 @@
 use Rattle.std.proofs.Common.{refl, rules}
-use Rattle.hv_effect.proofs.PagesAndVps.{untold}
+use Rattle.hv_admit.proofs.PagesAndVps.{untold}
 use Rattle.hv_partition_calls.proofs.get_property.do_get_property.Goals as goal
 
 pub returns : goal.returns

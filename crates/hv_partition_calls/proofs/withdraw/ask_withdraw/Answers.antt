@@ -4,7 +4,7 @@ use Rattle.hv_calls.specs.declared.call.Call.TheVariants.{WithdrawMemory}
 use Rattle.hv_partition.specs.Partition.{available as may_use}
 use Rattle.hv_policy.specs.Needs.{target_of}
 use Rattle.hv_policy.specs.declared.need.Need.{Need}
-use Rattle.hv_refine.proofs.TargetFound.{found_available}
+use Rattle.hv_admit.proofs.TargetFound.{found_available}
 use Rattle.hv_partition_calls.proofs.withdraw.ask_withdraw.Goals as goal
 
 pub returns-then-balance_of-need-clause-unmet : goal.returns-then-balance_of-need-clause-unmet

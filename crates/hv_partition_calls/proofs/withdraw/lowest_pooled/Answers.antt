@@ -2,8 +2,8 @@ use Rattle.std.proofs.Common.{◌≡◌, true, refl, sym, ap, subst, ◌∙◌, 
 use Rattle.std.specs.FinSet as set
 use Rattle.hv_pages.specs.PageSet.{PagesAndRoom, IsLowest}
 use Rattle.hv_partition.specs.Partition.{PartitionState}
-use Rattle.hv_refine.proofs.FoundRow.{content_row}
-use Rattle.hv_refine.specs.Tie.{holds}
+use Rattle.hv_admit.proofs.FoundRow.{content_row}
+use Rattle.hv_admit.specs.Tie.{holds}
 use Rattle.hv_partition_calls.proofs.PoolLookups.{lowest_is, no_lowest}
 use Rattle.hv_partition_calls.proofs.withdraw.lowest_pooled.Goals as goal
 

@@ -1,6 +1,6 @@
 use Rattle.std.proofs.Common.{refl}
 use Rattle.std.proofs.lemmas.Result.{err_from_is_err_and}
-use Rattle.hv_effect.proofs.PagesAndVps.{untold}
+use Rattle.hv_admit.proofs.PagesAndVps.{untold}
 use Rattle.hv_port_calls.proofs.ChangedLinks.{carried, conn_added, put_back}
 use Rattle.hv_port_calls.proofs.port_connection.do_connect.Goals as goal
 

@@ -1,5 +1,5 @@
 use Rattle.std.proofs.Common.{◌∙◌, rules}
-use Rattle.hv_refine.proofs.TargetFound.{found_available}
+use Rattle.hv_admit.proofs.TargetFound.{found_available}
 use Rattle.hv_port_calls.specs.Calls.{create_with}
 use Rattle.hv_port_calls.proofs.port_creation.ask_create_port.Goals as goal
 

@@ -1,6 +1,6 @@
 use Rattle.std.proofs.Common.{refl}
 use Rattle.std.proofs.lemmas.Result.{err_from_is_err_and}
-use Rattle.hv_effect.proofs.PagesAndVps.{untold}
+use Rattle.hv_admit.proofs.PagesAndVps.{untold}
 use Rattle.hv_port_calls.proofs.ChangedLinks.{carried, port_added, put_back}
 use Rattle.hv_port_calls.proofs.port_creation.do_create_port.Goals as goal
 

@@ -1,5 +1,5 @@
 use Rattle.std.proofs.Common.{refl}
-use Rattle.hv_effect.proofs.PagesAndVps.{untold}
+use Rattle.hv_admit.proofs.PagesAndVps.{untold}
 use Rattle.hv_port_calls.proofs.ChangedLinks.{carried, port_removed}
 use Rattle.hv_port_calls.proofs.port_deletion.do_delete_port.Goals as goal
 

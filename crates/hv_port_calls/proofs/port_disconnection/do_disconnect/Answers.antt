@@ -1,5 +1,5 @@
 use Rattle.std.proofs.Common.{refl}
-use Rattle.hv_effect.proofs.PagesAndVps.{untold}
+use Rattle.hv_admit.proofs.PagesAndVps.{untold}
 use Rattle.hv_port_calls.proofs.ChangedLinks.{carried, conn_removed}
 use Rattle.hv_port_calls.proofs.port_disconnection.do_disconnect.Goals as goal
 

@@ -1,7 +1,7 @@
 use Rattle.std.proofs.Common.{◌≡◌, ap, ◌∙◌, rules}
 use Rattle.hv_calls.specs.declared.call.Call.TheVariants.{CreateVp}
 use Rattle.hv_policy.specs.declared.need.Need.{Need}
-use Rattle.hv_refine.proofs.TargetFound.{found_available}
+use Rattle.hv_admit.proofs.TargetFound.{found_available}
 use Rattle.hv_processors.proofs.create.ask_create_vp.Goals as goal
 
 pub returns-then-balance_of-need : goal.returns-then-balance_of-need

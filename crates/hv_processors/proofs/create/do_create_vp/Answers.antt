@@ -1,6 +1,6 @@
 use Rattle.std.proofs.Common.{◌≡◌, Some, refl, ap, ◌∙◌}
 use Rattle.hv_defs.specs.declared.life.Life.TheVariants.{Active}
-use Rattle.hv_effect.specs.Effect.{life_of}
+use Rattle.hv_admit.specs.Effect.{life_of}
 use Rattle.hv_processors.proofs.CreatedProcessor.{added_tied, added_told, create_active, create_free}
 use Rattle.hv_tree.specs.Rows.{content}
 use Rattle.hv_processors.proofs.create.do_create_vp.Goals as goal

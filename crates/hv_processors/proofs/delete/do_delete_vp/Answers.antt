@@ -1,7 +1,7 @@
 use Rattle.std.proofs.Common.{◌≡◌, Some, true, refl, rules}
 use Rattle.std.specs.FinMap.{contains_key}
 use Rattle.hv_defs.specs.declared.life.Life.TheVariants.{Active}
-use Rattle.hv_effect.specs.Effect.{life_of}
+use Rattle.hv_admit.specs.Effect.{life_of}
 use Rattle.hv_processors.proofs.CreatedProcessor.{delete_active, removed_tied, removed_told}
 use Rattle.hv_processors.proofs.delete.do_delete_vp.Goals as goal
 

@@ -1,5 +1,5 @@
 use Rattle.std.proofs.Common.{refl, rules}
-use Rattle.hv_effect.proofs.PagesAndVps.{untold}
+use Rattle.hv_admit.proofs.PagesAndVps.{untold}
 use Rattle.hv_processors.proofs.get_registers.do_get_registers.Goals as goal
 
 pub returns : goal.returns

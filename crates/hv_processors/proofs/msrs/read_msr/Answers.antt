@@ -1,5 +1,5 @@
 use Rattle.std.proofs.Common.{refl, rules}
-use Rattle.hv_effect.proofs.PagesAndVps.{untold}
+use Rattle.hv_admit.proofs.PagesAndVps.{untold}
 use Rattle.hv_processors.proofs.WrittenRegister.{read_told, vp_still}
 use Rattle.hv_processors.proofs.msrs.read_msr.Goals as goal
 

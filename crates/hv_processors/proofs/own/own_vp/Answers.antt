@@ -1,6 +1,6 @@
 use Rattle.std.proofs.Common.{◌≡◌, Some, ap, sym, ◌∙◌, rules}
 use mathlib.Core.Logic.{inr}
-use Rattle.hv_refine.proofs.UnchangedProcessor.{same_vp}
+use Rattle.hv_admit.proofs.UnchangedProcessor.{same_vp}
 use Rattle.hv_tree.proofs.Laws.{change-unchanged}
 use Rattle.hv_tree.specs.Rows.{change, content}
 use Rattle.hv_processors.proofs.own.own_vp.Goals as goal

@@ -2,10 +2,10 @@ use Rattle.std.proofs.Common.{◌≡◌, ◌==◌, true, false, cond, sym, ap, �
 use Rattle.std.proofs.lemmas.Nat.Bits.{shr_and_one}
 use Rattle.std.specs.Int.{bit_at}
 use Rattle.hv_defs.specs.Vectors.{VectorSet, raised}
-use Rattle.hv_effect.specs.Effect.{has_bit, quiet}
-use Rattle.hv_effect.specs.Ended.{vectors_of}
-use Rattle.hv_effect.specs.declared.effect.Effect.{Effect}
-use Rattle.hv_effect.specs.declared.effect.Effect.TheVariants as variant
+use Rattle.hv_admit.specs.Effect.{has_bit, quiet}
+use Rattle.hv_admit.specs.Ended.{vectors_of}
+use Rattle.hv_admit.specs.declared.effect.Effect.{Effect}
+use Rattle.hv_admit.specs.declared.effect.Effect.TheVariants as variant
 use Rattle.hv_processors.proofs.WrittenRegister.{vectors_next}
 use Rattle.hv_processors.proofs.writes.ended.Goals.{then-due-sint-eq1, else-due-sint-eq1}
 use Rattle.hv_processors.proofs.writes.ended.Goals as goal

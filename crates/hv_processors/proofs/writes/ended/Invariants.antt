@@ -1,6 +1,6 @@
 use Rattle.std.proofs.Common.{◌≡◌}
-use Rattle.hv_effect.specs.Effect.{has_bit}
-use Rattle.hv_effect.specs.Ended.{vectors_of}
+use Rattle.hv_admit.specs.Effect.{has_bit}
+use Rattle.hv_admit.specs.Ended.{vectors_of}
 use Rattle.hv_processors.proofs.writes.ended.Given as goal
 
 abbrev pub invariant-loop-sint : goal.invariant-loop-sint

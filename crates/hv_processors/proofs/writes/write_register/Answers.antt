@@ -1,8 +1,8 @@
 use Rattle.std.proofs.Common.{◌≡◌, ap, ◌∙◌, ne_eqb}
 use Rattle.hv_defs.specs.declared.registers.TheConstants.{EOM}
 use Rattle.hv_defs.specs.declared.sizes.TheConstants.{SINTS}
-use Rattle.hv_effect.specs.Effect.{has_bit}
-use Rattle.hv_effect.specs.Ended.{ended_effect, vectors_of}
+use Rattle.hv_admit.specs.Effect.{has_bit}
+use Rattle.hv_admit.specs.Ended.{ended_effect, vectors_of}
 use Rattle.hv_vp.specs.Vp.{VpState, written}
 use Rattle.hv_processors.proofs.WrittenRegister.{end_told, write_told}
 use Rattle.hv_processors.proofs.writes.write_register.Goals.{then-name-eq-EOM, else-name-eq-EOM}

@@ -1,6 +1,6 @@
 use Rattle.std.proofs.Common.{OnOk, subst, sym}
 use Rattle.std.specs.Io.KnownBytes.{Appends}
-use Rattle.hv_effect.specs.declared.effect.Effect.{Effect}
+use Rattle.hv_admit.specs.declared.effect.Effect.{Effect}
 use Rattle.hv_trace.proofs.PartsInOrder.{four, three, two}
 use Rattle.hv_trace.specs.Effect.{effect_text}
 use Rattle.hv_trace.proofs.effect.put_effect.Goals as goal

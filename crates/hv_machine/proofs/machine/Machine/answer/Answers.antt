@@ -1,5 +1,5 @@
 use Rattle.std.proofs.Common.{sym}
-use Rattle.hv_effect.specs.declared.effect.Effect.TheVariants.{Nothing}
+use Rattle.hv_admit.specs.declared.effect.Effect.TheVariants.{Nothing}
 use Rattle.hv_machine.proofs.AccessSteps.{access_event_is}
 use Rattle.hv_machine.proofs.Steps.{call_event_is, same_event, same_told}
 use Rattle.hv_machine.proofs.machine.Machine.answer.Goals as goal

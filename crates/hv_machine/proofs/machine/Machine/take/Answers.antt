@@ -1,7 +1,7 @@
 use Rattle.std.proofs.Common.{refl, ap, rules, Ok, Err}
 use Rattle.hv_policy.specs.Call.{call_event}
 use Rattle.hv_policy.specs.Parts.{reply_of}
-use Rattle.hv_refine.proofs.RoomIsNoState.{tied_roomless}
+use Rattle.hv_admit.proofs.RoomIsNoState.{tied_roomless}
 use Rattle.hv_machine.proofs.Steps.{call_told, denied, denied_call, denied_told, frame_unmet, invariant, nothing_told, served_call, state_of, unserved_call}
 use Rattle.hv_machine.specs.IsFlat.{IsFlat}
 use Rattle.hv_machine.proofs.machine.Machine.take.Goals as goal

@@ -1,0 +1,11 @@
+pub mod Access
+pub mod Asked
+pub mod Done
+pub mod Effect
+pub mod Ended
+pub mod Kind
+pub mod Raised
+pub mod Room
+pub mod Served
+pub mod Tie
+pub mod Vp

@@ -1,9 +1,0 @@
-pub mod EndOfMessage
-pub mod OneKind
-pub mod PagesAndVps
-pub mod PostEffect
-pub mod ProcessorChange
-pub mod FlagEffects
-pub mod RaisedVectors
-pub mod SlotAndVectorEffects
-pub mod Unchanged

@@ -1,4 +1,0 @@
-pub mod Effect
-pub mod Ended
-pub mod Kind
-pub mod Raised
