@@ -103,7 +103,7 @@ fn join<A: Allocator>(blocks: &mut Vec<Block, A>, at: usize)
 }
 
 // The number of runs that begin above the page.
-fn search(runs: &[Run], page: u32) -> usize
+pub(crate) fn search(runs: &[Run], page: u32) -> usize
     ensures bound { result ≤ length runs.now }
     ensures above { (r : ARun) → 1 ≤ result → page < (slice_index_or runs.now (result - 1) r).first }
     ensures from { (r : ARun) → result < length runs.now → (slice_index_or runs.now result r).first ≤ page }
@@ -280,6 +280,24 @@ impl<A: Allocator> Blocks<A> {
             blocks: Vec::new(alloc),
             room: 0,
         }
+    }
+
+    // Puts few runs into the first block, for which there is room.
+    pub(crate) fn begin(&mut self, few: &[Run])
+        requires blocks { AreBlocks self.old }
+        requires empty { self.old.blocks.items ≡ [] }
+        requires room { 1 ≤ self.old.room }
+        requires some { 1 ≤ length few.now }
+        requires fits { length few.now ≤ 128 }
+        ensures blocks { AreBlocks self.new }
+        ensures items { self.new.blocks.items ≡ record { items = few.now } ∷ [] }
+        ensures room { self.new.room ≡ self.old.room }
+    {
+        let mut first: Block = ArrayVec::new();
+        let Ok(()) = first.try_extend_from_slice(few) else {
+            unreachable!()
+        };
+        self.blocks.push_reserved(first);
     }
 
     // Makes room for at least `more` runs.

@@ -2,6 +2,7 @@ use Rattle.std.proofs.Common.{◌<◌, ◌≤◌, sym, subst}
 use Rattle.hv_pages.specs.declared.runs.Run.{Run}
 use Rattle.hv_pages.specs.PageSet.{PagesAndRoom, pages_of, IsFirstRun}
 use Rattle.hv_pages.specs.Blocks.{before, flat}
+use Rattle.hv_pages.specs.RunList.{blocks_in}
 use Rattle.hv_pages.specs.Runs.{spread}
 use Rattle.hv_pages.proofs.Edits.{place_within}
 use Rattle.hv_pages.proofs.FirstRuns.{first_within}
@@ -10,7 +11,7 @@ use Rattle.hv_pages.proofs.page_set.PageSet.run_from.Goals as goal
 
 pub run_above-requires-clause-below : goal.run_above-requires-clause-below
 run_above-requires-clause-below g c =
-    let blocks = c.self.inside.runs.blocks.items in
+    let blocks = (blocks_in c.self.inside.runs) in
     let run = c.in-Some.run' in
     let within = place_within blocks c.find-at.result c.in-Some.ensures.some.0 in
     let is = c.in-Some.ensures.some.1 run in
@@ -19,7 +20,7 @@ run_above-requires-clause-below g c =
 
 pub returns-then-page-run-clause-some : goal.returns-then-page-run-clause-some
 returns-then-page-run-clause-some g c =
-    let blocks = c.self.inside.runs.blocks.items in
+    let blocks = (blocks_in c.self.inside.runs) in
     let run = c.in-Some.run' in
     let at = before blocks c.find-at.result in
     let within = place_within blocks c.find-at.result c.in-Some.ensures.some.0 in

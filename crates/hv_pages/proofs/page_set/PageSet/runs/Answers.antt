@@ -6,8 +6,8 @@ use Rattle.hv_pages.proofs.Members.{len-pages_of}
 use Rattle.hv_pages.proofs.Spreads.{runs_few, spread_falls, spread_fits}
 use Rattle.hv_pages.proofs.page_set.PageSet.runs.Goals as goal
 
-pub count-requires : goal.count-requires
-count-requires g c =
+pub count-requires-clause-few : goal.count-requires-clause-few
+count-requires-clause-few g c =
     let few = runs_few _ c.self.invariant.1 in let fits = spread_fits _ c.self.invariant.1 in omega (arith, few, fits)
 
 pub returns-clause-runs : goal.returns-clause-runs
