@@ -15,11 +15,11 @@ enum {
     SLACK = 2048,  /* small blocks that malloc holds for itself */
     CACHE = 65536, /* those after many of them */
     LONGEST = 4 << 20,
-    ONE_PARTITION = 2560, /* with one page of its own */
+    ONE_PARTITION = 512,  /* with one page of its own */
     ONE_VP = 6144,        /* the first one of a partition */
     FIRST_MESSAGE = 2560, /* of a processor */
     PORTS = 300,
-    ALL_PORTS = 512 * 48 + 64 /* a row has 48 bytes, and a table grows by doubling */
+    ALL_PORTS = 20 * 784 + 64 * 24 /* 19 blocks of 16 rows of 48 bytes, a spare one, and their list */
 };
 
 static const hvpm_caller root = {1, 0};
@@ -72,7 +72,7 @@ struct size {
     size_t partitions, vps, messages, ports, pages;
 };
 static size_t most_of(struct size of) {
-    return 163840 + 4800 * of.partitions + 6144 * of.vps + 1280 * of.messages + 192 * of.ports +
+    return 163840 + 4800 * of.partitions + 6144 * of.vps + 1280 * of.messages + 896 * of.ports +
            40 * of.pages;
 }
 

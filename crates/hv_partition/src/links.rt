@@ -36,6 +36,8 @@ impl<A: Allocator> Partition<A> {
     /// Returns `Err` if there is no memory for it, or if the partition has 2^32 - 1 ports. The partition is
     /// then as it was.
     pub fn reserve_port(&mut self) -> Result<(), AllocError>
+    where
+        A: Clone,
         ensures ok { OnOk result (1 ≤ self.new.ports.room) }
         ensures enough { 1 ≤ self.old.ports.room → IsOk result }
         ensures unchanged { OnErr result (self.new ≡ self.old) }
@@ -100,6 +102,8 @@ impl<A: Allocator> Partition<A> {
     /// Returns `Err` if there is no memory for it, or if the partition has 2^32 - 1 connections. The
     /// partition is then as it was.
     pub fn reserve_conn(&mut self) -> Result<(), AllocError>
+    where
+        A: Clone,
         ensures ok { OnOk result (1 ≤ self.new.conns.room) }
         ensures enough { 1 ≤ self.old.conns.room → IsOk result }
         ensures unchanged { OnErr result (self.new ≡ self.old) }

@@ -74,7 +74,7 @@ pub fn ask_connect<A: Allocator>(
 /// HvConnectPort: creates a connection of the target to a port, which has this birth.
 ///
 /// The connection keeps the port's partition, id, type and birth. It uses 1 page of the target's pool.
-pub fn do_connect<A: Allocator>(
+pub fn do_connect<A: Allocator + Clone>(
     tree: &mut Partitions<A>,
     caller: u64,
     partition: u64,

@@ -74,7 +74,7 @@ pub fn ask_create_port<A: Allocator>(
 ///
 /// The port's birth is the count of served events after this one; `served` is the count before it. The
 /// port uses 1 page of the target's pool.
-pub fn do_create_port<A: Allocator>(
+pub fn do_create_port<A: Allocator + Clone>(
     tree: &mut Partitions<A>,
     caller: u64,
     served: u64,

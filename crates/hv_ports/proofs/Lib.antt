@@ -1,2 +1,4 @@
+pub mod BlockLists
+pub mod Places
 pub mod Rising
 pub mod Tables

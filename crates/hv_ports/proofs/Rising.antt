@@ -11,7 +11,7 @@ use Rattle.std.proofs.lemmas.Bool.{cases_eq, cases_lt}
 use Rattle.std.proofs.lemmas.Bool.Decides.{nat_tests}
 use Rattle.std.proofs.lemmas.Cmp.{ranked}
 use Rattle.std.proofs.lemmas.List.Edits.{length-insert, get_or-insert_below, get_or-insert_at, get_or-insert_above}
-use Rattle.hv_ports.specs.Table.{IsRising}
+use Rattle.hv_ports.specs.Blocks.{IsRising}
 
 pub tied_same : (q n : ℕ) → n ≡ q → eq_by_cmp nat_cmp q n ≡ true
 tied_same q n same = unsigned_tied q n ∙ eq-eqb q n (sym same)

@@ -1,20 +1,27 @@
 -- What is seen of a list of slots, and of it after each change.
-use Rattle.std.proofs.Common.{◌≡◌, ℕ, ◌+◌, ◌-◌, ◌<◌, ◌≤◌, min, false, cond, List, [], ◌∷◌, length, get_or, None, Some, Result, Ok, Err, arith, inl, inr, refl, sym, ap, ◌∙◌, is_some, IfOk, IsErr}
-use Rattle.std.proofs.Common.{HoldsAt, insert, remove, nat_cmp}
+use Rattle.std.proofs.Common.{◌≡◌, ℕ, ◌-◌, ◌<◌, ◌≤◌, min, Bool, Option, true, false, cond, List, [], length, get_or, None, Some, arith, inl, inr, refl, sym, ap, ◌∙◌, is_some, IfSome}
+use Rattle.std.proofs.Common.{insert, remove, nat_cmp}
 use Rattle.std.specs.Cmp.{nat_cmp_total}
 use Rattle.std.specs.FinMap as map
 use Rattle.std.specs.FinSet.{nat_cmp-IsAntisymmetric}
-use Rattle.std.specs.List.Sorted.{IsSearchInRange}
 use Rattle.std.specs.Ordering.{eq_by_cmp}
 use Rattle.std.proofs.lemmas.Bool.{cases_eq, false≢true}
-use Rattle.std.proofs.lemmas.List.Edits.{length-insert, length-remove}
-use Rattle.std.proofs.lemmas.List.Quantifiers.{all_pairs_remove}
-use Rattle.hv_ports.specs.Table.{AreSlots, IsRising, cleared, rows_of, seen_of}
+use Rattle.hv_ports.specs.Blocks.{IsRising}
+use Rattle.hv_ports.specs.Table.{cleared, rows_of, seen_of}
 use Rattle.hv_ports.specs.declared.table.TheConstants.{MOST}
-use Rattle.hv_ports.proofs.Rising.{IsGap, counted, find-insert_gap, find-remove, find_at, find_gap, rising-insert, sorted_rising, tied_apart, tied_same}
+use Rattle.hv_ports.proofs.Rising.{IsGap, counted, find-insert_gap, find-remove, find_at, find_gap, sorted_rising, tied_apart, tied_same}
+
+at_most_one : (b : Bool) → cond b 1 0 ≤ 1
+at_most_one true = omega arith
+at_most_one false = omega arith
+
+-- a vector with a place free has one still, with fewer elements
+pub still_fits : {S : Type 0} (spare : Option S) (len less cap same : ℕ) → less ≤ len → same ≡ cap → IfSome spare (λ _. len < cap) → IfSome spare (λ _. less < same)
+still_fits None len less cap same le is fits = tt
+still_fits (Some s) len less cap same le is fits = omega (arith, le, is, fits)
 
 module _ {R : Type 0} where
-  rows_of_none : rows_of {R = R} [] ≡ map.empty
+  pub rows_of_none : rows_of {R = R} [] ≡ map.empty
   unfolding rows_of
   rows_of_none = refl
 
@@ -66,30 +73,23 @@ module _ {R : Type 0} where
         | inr apart ↦ rw (map.get-remove nat_cmp_total rows q x, tied_apart x q apart) refl
       ])
 
-  -- a search for a free id does not find it
-  pub not_found : (slots : List (ℕ × R)) (q : ℕ) (r : Result ℕ ℕ) → IsRising slots → map.contains_key (rows_of slots) q ≡ false → IsSearchInRange r (length slots) → IfOk r
-      (HoldsAt (λ slot. slot.0 ≡ q) slots) → IsErr r
-  not_found slots q (Err p) rising free within found = refl
-  not_found [] q (Ok p) rising free within found = absurd (omega (arith, within))
-  not_found (slot ∷ slots) q (Ok p) rising free within found = absurd (false≢true (sym free ∙ ap is_some (some_of (slot ∷ slots) q p slot rising within (found slot))))
-
-  -- one slot more
-  pub one_more : (slots : List (ℕ × R)) (q p : ℕ) (row : R) → AreSlots slots → p ≤ length slots → IsGap slots q p → (cap : ℕ) → 1 ≤ (seen_of slots cap).room → AreSlots (insert slots p (q, row))
-  one_more slots q p row are within gap cap room =
-      record { rising = rising-insert slots q p row are.rising within gap; few = omega (arith, length-insert slots p (q, row) within, room) }
-
-  -- one slot less
-  pub one_less : (slots less : List (ℕ × R)) (p : ℕ) → AreSlots slots → less ≡ remove slots p → p < length slots → AreSlots less
-  one_less slots less p are is within =
-      rw is (record { rising = all_pairs_remove (λ slot later. slot.0 < later.0) slots p within are.rising; few = omega (arith, length-remove slots p within, are.few) })
+  -- a slot with the id tells that it isn't free
+  pub not_free : (slots : List (ℕ × R)) (q p : ℕ) (d : ℕ × R) → IsRising slots → map.contains_key (rows_of slots) q ≡ false → p < length slots → (get_or slots p d).0 ≡ q → ⊥
+  not_free slots q p d rising free within is = false≢true (sym free ∙ ap is_some (some_of slots q p d rising within is))
 
   -- as many rows as slots
   pub count_of : (slots : List (ℕ × R)) → IsRising slots → map.len (rows_of slots) ≡ length slots
   unfolding rows_of
   count_of slots rising = counted slots rising
 
-  -- what is seen of no slots, whatever was seen in the same memory before
-  pub cleared_seen : (slots none : List (ℕ × R)) (cap : ℕ) → AreSlots slots → none ≡ [] → length slots ≤ cap → seen_of none cap ≡ cleared (seen_of slots cap)
-  cleared_seen slots none cap are empty within =
-      let room : min cap MOST - 0 ≡ min cap MOST - length slots + map.len (rows_of slots) = rw (count_of slots are.rising) (omega (arith, are.few, within)) in
-      rw empty (λ i. record { rows = rows_of_none i; room = room i })
+  -- what is seen after all slots are removed: the spare block stays unless there were as many slots as there may be
+  pub cleared_seen : {S : Type 0} (slots none : List (ℕ × R)) (old now : Option S) → none ≡ [] → length slots < MOST → now ≡ old → seen_of none now ≡ cleared (seen_of slots old)
+  cleared_seen slots none old now empty few same =
+      let one = at_most_one (is_some old) in
+      let room : min (cond (is_some old) 1 0) (MOST - 0) ≡ min (cond (is_some old) 1 0) (MOST - length slots) = omega (arith, one, few) in
+      rw (empty, same) (λ i. record { rows = rows_of_none i; room = room i })
+
+  pub cleared_full : {S : Type 0} (slots none : List (ℕ × R)) (old now : Option S) → none ≡ [] → length slots ≡ MOST → now ≡ None → seen_of none now ≡ cleared (seen_of slots old)
+  cleared_full slots none old now empty full gone =
+      let room : min 0 (MOST - 0) ≡ min (cond (is_some old) 1 0) (MOST - length slots) = omega (arith, full) in
+      rw (empty, gone) (λ i. record { rows = rows_of_none i; room = room i })

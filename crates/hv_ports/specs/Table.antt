@@ -1,5 +1,5 @@
 -- A table as contracts see it.
-use Rattle.std.specs.Prelude.{ℕ, ◌+◌, ◌-◌, ◌<◌, ◌≤◌, List, length, min, refl, AllPairs}
+use Rattle.std.specs.Prelude.{ℕ, ◌-◌, cond, is_some, List, length, min, Option, refl}
 use Rattle.std.specs.Coded.{Coded, code_by, coded×, coded_ℕ}
 use Rattle.std.specs.FinMap as map
 use Rattle.std.specs.Ordering.{nat_cmp}
@@ -20,23 +20,16 @@ table_code {R} row =
 abbrev pub no_rows : {R : Type 0} → TableState R
 no_rows = record { rows = map.empty; room = 0 }
 
--- the table after all rows are removed, with the room that they leave
+-- the table after all rows are removed, with the room that it has
 abbrev pub cleared : {R : Type 0} → TableState R → TableState R
-cleared t = record { rows = map.empty; room = t.room + map.len t.rows }
-
--- each id is below all later ones
-abbrev pub IsRising : {R : Type 0} → List (ℕ × R) → Type 0
-IsRising slots = AllPairs (λ slot later. slot.0 < later.0) slots
-
--- the invariant of the slots, each an id with its row: the ids rise, and there are at most `MOST`
-pub record AreSlots {R : Type 0} (slots : List (ℕ × R)) : Type 0 where
-  pub rising : IsRising slots
-  pub few : length slots ≤ MOST
+cleared t = record { rows = map.empty; room = t.room }
 
 -- the rows of a list of slots, by their ids
 unfoldable pub rows_of : {R : Type 0} → List (ℕ × R) → map.FinMap nat_cmp R
 rows_of slots = map.from_entries slots
 
--- the view of a list of slots in a vector with this capacity; there is never room for more than `MOST` in all
-abbrev pub seen_of : {R : Type 0} → List (ℕ × R) → ℕ → TableState R
-seen_of slots capacity = record { rows = rows_of slots; room = min capacity MOST - length slots }
+-- the view of a list of slots, with a spare block or none; a spare block is room for one slot more, and there
+-- are never more than `MOST`
+abbrev pub seen_of : {R S : Type 0} → List (ℕ × R) → Option S → TableState R
+seen_of slots spare =
+    record { rows = rows_of slots; room = min (cond (is_some spare) 1 0) (MOST - length slots) }

@@ -1,36 +1,37 @@
 // A table of rows by ids.
-ghost use Rattle.std.specs.Prelude.{◌≡◌, ◌+◌, ◌<◌, ◌≤◌, ◌↔◌, false, length, IfErr, IfOk, IsOk, IsTrue, OnErr};
-ghost use Rattle.std.specs.Prelude.{OnOk, HoldsAt, slice_get};
+ghost use Rattle.std.specs.Prelude.{◌≡◌, ◌+◌, ◌≤◌, ◌↔◌, false, IsOk, IsTrue, OnErr, OnOk, slice_get};
 ghost use Rattle.std.specs.FinMap as map;
-ghost use Rattle.std.specs.List.Sorted.{IsPartitionPoint, IsSearchInRange};
-ghost use Rattle.hv_ports.specs.Table.{IsRising, cleared, no_rows};
+ghost use Rattle.hv_ports.specs.Table.{cleared, no_rows};
 
+use crate::blocks::{Block, FULL, nth, place_of, put, take};
 use std::alloc::{AllocError, Allocator};
 use std::marker::Model;
 
 // As many rows as a `u32` counts.
-const MOST: usize = 0xFFFF_FFFF;
+const MOST: u32 = 0xFFFF_FFFF;
 
 /// Rows by their ids, in memory of an allocator `A`.
 ///
-/// The room of a table is the number of further rows that it has memory for. Dropping a table gives its
-/// memory back.
+/// The room of a table is the number of further rows that it has memory for, at most 1. Dropping a table
+/// gives its memory back.
 #[derive(Drop)]
 pub struct Table<R: Copy, A: Allocator> {
-    slots: Vec<(u32, R), A>,
+    blocks: Vec<Block<R, A>, A>,
+    spare: Option<Block<R, A>>,
+    count: u32,
 }
 
 impl<R: Copy, A: Allocator> Model for Table<R, A> {
-    ghost use Rattle.std.specs.Prelude.{vec_capacity};
-    ghost use Rattle.hv_ports.specs.Table.{AreSlots, TableState, seen_of, table_code};
+    ghost use Rattle.hv_ports.specs.Blocks.{AreBlocks, flat};
+    ghost use Rattle.hv_ports.specs.Table.{TableState, seen_of, table_code};
 
     ghost Value = { TableState R };
 
     ghost coded = { table_code R.code };
 
-    ghost view = { λ t. seen_of t.slots.items (vec_capacity t.slots) };
+    ghost view = { λ t. seen_of (flat t.blocks.items) t.spare };
 
-    ghost invariant = { λ t. AreSlots t.slots.items };
+    ghost invariant = { λ t. AreBlocks t.blocks t.spare t.count };
 }
 
 impl<R: Copy, A: Allocator> Table<R, A> {
@@ -40,7 +41,9 @@ impl<R: Copy, A: Allocator> Table<R, A> {
         ensures { result ≡ no_rows }
     {
         Table {
-            slots: Vec::new(alloc),
+            blocks: Vec::new(alloc),
+            spare: None,
+            count: 0,
         }
     }
 
@@ -50,38 +53,34 @@ impl<R: Copy, A: Allocator> Table<R, A> {
     pub fn find(&self, id: u32) -> Option<R>
         ensures { result ≡ map.get self.now.rows id }
     {
-        match place_of(self.slots.as_slice(), id) {
-            Ok(place) => Some(self.slots[place].1),
+        match place_of(self.blocks.as_slice(), id) {
+            Ok(place) => Some(self.blocks[place.block][place.at].1),
             Err(_) => None,
         }
     }
 
     /// The row at a place, with its id, or `None` if there are no more.
     ///
-    /// The rows are in order of rising id, from place 0 on.
+    /// The rows are in order of rising id, from place 0 on. The time is at most proportional to the number of
+    /// blocks before the place.
     pub fn at(&self, place: u32) -> Option<(u32, R)>
         ensures { result ≡ slice_get (map.entries self.now.rows) place }
     {
-        let place = place as usize;
-        if place < self.slots.len() {
-            Some(self.slots[place])
-        } else {
-            None
-        }
+        nth(self.blocks.as_slice(), place as usize)
     }
 
     /// The number of rows.
     pub fn count(&self) -> u32
         ensures { result ≡ map.len self.now.rows }
     {
-        self.slots.len() as u32
+        self.count
     }
 
     /// Returns `true` if there is room for one more row.
     pub fn has_room(&self) -> bool
         ensures { IsTrue result ↔ 1 ≤ self.now.room }
     {
-        self.slots.len() < self.slots.capacity().min(MOST)
+        self.spare.is_some() && self.count < MOST
     }
 
     /// Makes room for one more row. Existing room always suffices.
@@ -89,57 +88,63 @@ impl<R: Copy, A: Allocator> Table<R, A> {
     /// Returns `Err` if there is no memory for it, or if there are 2^32 - 1 rows already. Nothing has changed
     /// then.
     pub fn reserve_one(&mut self) -> Result<(), AllocError>
+    where
+        A: Clone,
         ensures room { OnOk result (1 ≤ self.new.room) }
         ensures enough { 1 ≤ self.old.room → IsOk result }
         ensures unchanged { OnErr result (self.new ≡ self.old) }
         ensures rows { self.new.rows ≡ self.old.rows }
         ensures kept { self.old.room ≤ self.new.room }
     {
-        if self.slots.len() == MOST {
+        if self.count == MOST {
             return Err(AllocError);
         }
-        self.slots.reserve(1)
+        if self.spare.is_none() {
+            self.blocks.reserve(1)?;
+            self.spare = Some(Vec::with_capacity(self.blocks.allocator().clone()?, FULL)?);
+        }
+        Ok(())
     }
 
     /// Adds a row with an id that is free. There must be room for it.
     ///
-    /// It moves each row with a higher id.
+    /// It moves at most the rows of one block, and the list of blocks.
     pub fn insert(&mut self, id: u32, row: R)
         requires room { 1 ≤ self.old.room }
         requires free { map.contains_key self.old.rows id ≡ false }
         ensures rows { self.new.rows ≡ map.insert self.old.rows id row }
         ensures room { self.old.room ≤ self.new.room + 1 }
     {
-        let place = place_of(self.slots.as_slice(), id).unwrap_err();
-        self.slots.insert(place, (id, row)).unwrap();
+        let Err(place) = place_of(self.blocks.as_slice(), id) else {
+            unreachable!()
+        };
+        put(&mut self.blocks, &mut self.spare, place, (id, row));
+        self.count += 1;
     }
 
-    /// Removes the row with this id, and returns it. It moves each row with a higher id.
+    /// Removes the row with this id, and returns it.
     pub fn remove(&mut self, id: u32) -> Option<R>
         ensures row { result ≡ map.get self.old.rows id }
         ensures rows { self.new.rows ≡ map.remove self.old.rows id }
         ensures room { self.old.room ≤ self.new.room }
     {
-        match place_of(self.slots.as_slice(), id) {
-            Ok(place) => Some(self.slots.remove(place).1),
+        match place_of(self.blocks.as_slice(), id) {
+            Ok(place) => {
+                self.count -= 1;
+                Some(take(&mut self.blocks, place))
+            }
             Err(_) => None,
         }
     }
 
-    /// Removes all rows. The room that they leave is kept.
+    /// Removes all rows. The room stays.
     pub fn clear(&mut self)
         ensures { self.new ≡ cleared self.old }
     {
-        self.slots.clear();
+        if self.count == MOST {
+            self.spare = None;
+        }
+        self.blocks.clear();
+        self.count = 0;
     }
-}
-
-// The place of the row with this id, or where it would go.
-fn place_of<R: Copy>(slots: &[(u32, R)], id: u32) -> Result<usize, usize>
-    requires { IsRising slots.now }
-    ensures within { IsSearchInRange result (length slots.now) }
-    ensures found { IfOk result (HoldsAt (λ slot. slot.0 ≡ id) slots.now) }
-    ensures between { IfErr result (IsPartitionPoint (λ slot. slot.0 < id) (λ slot. id < slot.0) slots.now) }
-{
-    slots.binary_search_by_key(&id, |slot| slot.0)
 }

@@ -105,9 +105,9 @@ const GROWTHS: [(Growth, u64); 28] = [
     (Growth::Copy(Copied::Event), 1),
     // Its rows, heads and outputs.
     (Growth::Entries, 3),
-    // The root's own, its loose and its pooled pages, the flags of a processor, and the list of processors.
-    (Growth::Whole(Whole::Machine), 5),
-    (Growth::Whole(Whole::Kept), 5),
+    // The root's own, the flags of a processor, and the list of processors.
+    (Growth::Whole(Whole::Machine), 3),
+    (Growth::Whole(Whole::Kept), 3),
     // A call's bytes, its processor and its line.
     (Growth::Whole(Whole::Script), 3),
     (Growth::Whole(Whole::Table), 1),

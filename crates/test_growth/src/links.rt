@@ -27,28 +27,16 @@ pub(crate) fn conn(port: u32) -> Conn {
     }
 }
 
-// Four rows that fill the first block of a table, and one more.
-pub(crate) fn ports() -> [(u32, Port); 5] {
-    [
-        (4, port(10)),
-        (2, port(11)),
-        (9, port(12)),
-        (1, port(13)),
-        (3, port(14)),
-    ]
+// A row that takes the block of a table, and one more.
+pub(crate) fn ports() -> [(u32, Port); 2] {
+    [(4, port(10)), (3, port(14))]
 }
 
-pub(crate) fn conns() -> [(u32, Conn); 5] {
-    [
-        (4, conn(20)),
-        (2, conn(21)),
-        (9, conn(22)),
-        (1, conn(23)),
-        (3, conn(24)),
-    ]
+pub(crate) fn conns() -> [(u32, Conn); 2] {
+    [(4, conn(20)), (3, conn(24))]
 }
 
-// All rows but the last are in the table, and fill its block.
+// All rows but the last are in the table, which has no further block.
 #[derive(Drop)]
 struct Full<'r, 'h, R: Copy> {
     table: Table<R, &'h Heap>,

@@ -115,8 +115,8 @@ const AS_FILLED: Seen = Seen {
     lowest: [Some(12), Some(0)],
     pages: [20, 12],
     vps: 4,
-    ports: 4,
-    conns: 4,
+    ports: 1,
+    conns: 1,
 };
 
 impl<'h> Trial for Full<'h> {
@@ -136,10 +136,10 @@ impl<'h> Trial for Full<'h> {
     fn is_after(&mut self) -> bool {
         let is_added = add_last(self.heap, &mut self.made, self.room).is_ok();
         let (due, has_room) = match self.room {
-            Room::Processors => (with_counts(5, 4, 4), true),
+            Room::Processors => (with_counts(5, 1, 1), true),
             Room::Pages(kind) => (AS_FILLED, self.made.pages(kind).room() >= self.changes),
-            Room::Ports => (with_counts(4, 5, 4), true),
-            Room::Connections => (with_counts(4, 4, 5), true),
+            Room::Ports => (with_counts(4, 2, 1), true),
+            Room::Connections => (with_counts(4, 1, 2), true),
         };
         let are_there = has_links(&self.made) && has_processors(&self.made);
         is_added && has_room && look(&self.made) == due && are_there
@@ -174,12 +174,12 @@ fn add_last<'h>(
 }
 
 fn has_links(made: &Partition<&Heap>) -> bool {
-    for (id, port) in &ports()[..4] {
+    for (id, port) in &ports()[..1] {
         if made.port(*id) != Some(*port) {
             return false;
         }
     }
-    for (id, conn) in &conns()[..4] {
+    for (id, conn) in &conns()[..1] {
         if made.conn(*id) != Some(*conn) {
             return false;
         }
@@ -242,15 +242,15 @@ fn add_conn(made: &mut Partition<&Heap>, id: u32, conn: Conn) -> Result<(), Allo
     Ok(())
 }
 
-// Four of each.
+// Four processors, a port and a connection.
 fn fill<'h>(heap: &'h Heap, made: &mut Partition<&'h Heap>) -> Result<(), AllocError> {
     for index in 0..4u32 {
         add_processor(made, index, Vp::new(heap, index)?)?;
     }
-    for (id, port) in &ports()[..4] {
+    for (id, port) in &ports()[..1] {
         add_port(made, *id, *port)?;
     }
-    for (id, conn) in &conns()[..4] {
+    for (id, conn) in &conns()[..1] {
         add_conn(made, *id, *conn)?;
     }
     Ok(())

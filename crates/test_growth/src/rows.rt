@@ -119,8 +119,8 @@ events 8
 partition 1 parent - Active mask 000000f700000044 loose 20 pooled 12 inuse 4 vps 1 ports 0 connections 0
 pages 32
 ",
-    blocks: &[10, 4, 0, 0, 1, 0, 1, 0],
-    wants: &[0, 1],
+    blocks: &[10, 3, 0, 0, 1, 0, 1, 0],
+    wants: &[0],
 };
 
 // A page is deposited and withdrawn, and there is no second.
@@ -144,8 +144,8 @@ partition 1 parent - Active mask 000000f700000044 loose 20 pooled 12 inuse 6 vps
 partition 2 parent 1 Created mask 0000003000000044 loose 0 pooled 0 inuse 0 vps 0 ports 0 connections 0
 pages 32
 ",
-    blocks: &[10, 4, 0, 0],
-    wants: &[0, 1],
+    blocks: &[10, 3, 0, 0],
+    wants: &[0],
 };
 
 // All pages are pooled, so the first page that is withdrawn needs memory. It goes to a partition that is then
@@ -171,8 +171,8 @@ events 5
 partition 1 parent - Active mask 000000f700000044 loose 1 pooled 11 inuse 4 vps 1 ports 0 connections 0
 pages 12
 ",
-    blocks: &[4, 10, 1, 0, 2],
-    wants: &[0, 1, 2],
+    blocks: &[3, 10, 0, 0, 2],
+    wants: &[1],
 };
 
 // A partition gets all that it needs to create a partition of its own, which is no kin of the root.
@@ -215,8 +215,8 @@ partition 2 parent 1 Active mask 000000f700000044 loose 0 pooled 6 inuse 6 vps 1
 partition 3 parent 2 Created mask 0000003000000044 loose 0 pooled 0 inuse 0 vps 0 ports 0 connections 0
 pages 32
 ",
-    blocks: &[10, 3, 0, 1, 2, 0, 0, 0, 2, 2, 3, 0, 0],
-    wants: &[0, 3, 9, 10],
+    blocks: &[10, 3, 0, 0, 2, 0, 0, 0, 2, 2, 3, 0, 0],
+    wants: &[0, 9, 10],
 };
 
 // A message port and a connection to it are created, and the port is created again. The connection leads to
@@ -265,8 +265,8 @@ partition 1 parent - Active mask 000000f700000044 loose 14 pooled 12 inuse 7 vps
 partition 2 parent 1 Active mask 0000003000000044 loose 0 pooled 6 inuse 5 vps 1 ports 1 connections 0
 pages 32
 ",
-    blocks: &[10, 3, 1, 0, 2, 0, 0, 0, 4, 1, 1, 0, 0, 0, 0, 0],
-    wants: &[0, 2, 8, 9, 10],
+    blocks: &[10, 3, 0, 0, 2, 0, 0, 0, 4, 1, 1, 0, 0, 0, 0, 0],
+    wants: &[0, 8, 9, 10],
 };
 
 // A message of 240 bytes is posted, after one of 241.
@@ -332,8 +332,8 @@ partition 1 parent - Active mask 000000f700000044 loose 14 pooled 12 inuse 7 vps
 partition 2 parent 1 Active mask 0000003000000044 loose 0 pooled 6 inuse 5 vps 1 ports 1 connections 0
 pages 32
 ",
-    blocks: &[10, 3, 1, 0, 2, 0, 0, 0, 4, 1, 1, 0, 0, 0, 0, 21, 2, 1, 0],
-    wants: &[0, 2, 8, 9, 10, 15],
+    blocks: &[10, 3, 0, 0, 2, 0, 0, 0, 4, 1, 1, 0, 0, 0, 0, 21, 2, 1, 0],
+    wants: &[0, 8, 9, 10, 15],
 };
 
 const ROWS: [Row; 9] = [

@@ -125,7 +125,7 @@ fn refused_after(rt: &impl Abort, heap: &Heap, blocks: u64) -> Result<Option<u32
 #[test]
 fn a_third_element_is_refused(rt: HostRuntime) -> Result<(), Fail> {
     let heap = Rationed::new(rt.alloc());
-    let wanted = [Some(0), Some(2), None];
+    let wanted = [Some(2), None];
     for (blocks, told) in wanted.iter().enumerate() {
         let refused = refused_after(&rt, &heap, blocks as u64)?;
         assert!(rt; refused == *told, "{blocks}");

@@ -1,7 +1,7 @@
 use Rattle.std.proofs.Common.{rules}
 use Rattle.std.proofs.lemmas.List.Sorted.{answers_always}
 use Rattle.hv_ports.proofs.Rising.{searched_found, searched_gap}
-use Rattle.hv_ports.proofs.table.place_of.Goals as goal
+use Rattle.hv_ports.proofs.blocks.search.Goals as goal
 
 pub returns-clause-found : goal.returns-clause-found
 returns-clause-found g c =
