@@ -1,6 +1,6 @@
 -- A write of a register: the rows are tied to what the model makes of it, and what it tells.
-use Rattle.std.proofs.Common.{◌≡◌, ℕ, ◌+◌, ◌==◌, ◌&&◌, nat_lt, not, Bool, false, cond, Option, Some, None, IfSome, Result, Ok, Err}
-use Rattle.std.proofs.Common.{refl, sym, ap, subst, ◌∙◌, add-one, eq-eqb, option_map, option_and_then, nat_cmp}
+use Rattle.std.proofs.Common.{◌≡◌, ℕ, zero, suc, ◌+◌, ◌≤◌, ◌==◌, ◌&&◌, nat_lt, not, Bool, false, cond, Option, Some, None, IfSome, Result, Ok, Err}
+use Rattle.std.proofs.Common.{refl, sym, ap, subst, ◌∙◌, arith, add-one, eq-eqb, option_map, option_and_then, nat_cmp}
 use Rattle.std.specs.FinMap.{FinMap, get, insert}
 use Rattle.std.specs.List.{list_any}
 use Rattle.std.specs.Option.{option_map_or}
@@ -45,6 +45,14 @@ vectors_next test registers sint old new so_far b is made =
     made ∙ ap (λ old. cond b (raised registers sint old) old) so_far
     ∙ sym (ap (λ b. cond b (raised registers sint (vectors_of test registers sint)) (vectors_of test registers sint)) is)
     ∙ ap (vectors_of test registers) (sym (add-one sint))
+
+-- those that do not pass the test add none
+pub vectors_none_from : (test : ℕ → Bool) (registers : FinMap nat_cmp ℕ) (n sint : ℕ) (vectors : VectorSet) → vectors ≡ vectors_of test registers sint
+    → ((k : ℕ) → sint ≤ k → test k ≡ false) → vectors ≡ vectors_of test registers (sint + n)
+vectors_none_from test registers zero sint vectors so_far none = so_far ∙ ap (vectors_of test registers) (omega arith)
+vectors_none_from test registers (suc n) sint vectors so_far none =
+    vectors_none_from test registers n (sint + 1) vectors (vectors_next test registers sint vectors vectors so_far false (none sint (omega arith)) refl)
+    (λ k from. none k (omega arith)) ∙ ap (vectors_of test registers) (omega arith)
 
 -- whether a processor takes messages doesn't depend on what EOM keeps
 takes_still : (registers : FinMap nat_cmp ℕ) (to : Result ℕ RegFault) → takes_messages (after_write registers EOM to) ≡ takes_messages registers

@@ -50,20 +50,31 @@ fn ended<A: Allocator>(vp: &Vp<A>, part: u64, index: u32, due: u16) -> Effect
     if due == 0 {
         return Effect::Nothing;
     }
-    let mut raised = Pending::new();
-    for sint in 0..SINTS as u8 {
-        if due >> sint & 1 == 1 {
-            vp.add_vector(sint, &mut raised);
-        }
-    }
     Effect::Synic(Synic {
         part,
         vp: index,
         shown: due,
         waiting: None,
         flag: None,
-        raised,
+        raised: raised_by(vp, due),
         taken: None,
         freed: None,
     })
+}
+
+// The vectors of the SINTs whose bits are 1.
+fn raised_by<A: Allocator>(vp: &Vp<A>, due: u16) -> Pending
+    ensures { result ≡ vectors_of (has_bit due) vp.now.registers SINTS }
+{
+    let mut raised = Pending::new();
+    for sint in 0..SINTS as u8 {
+        // Most SINTs raise none.
+        if due >> sint == 0 {
+            return raised;
+        }
+        if due >> sint & 1 == 1 {
+            vp.add_vector(sint, &mut raised);
+        }
+    }
+    raised
 }

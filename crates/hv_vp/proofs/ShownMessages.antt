@@ -1,5 +1,5 @@
 -- Messages that become shown at SINTs, and the write of EOM.
-use Rattle.std.proofs.Common.{◌≡◌, ℕ, zero, suc, ◌+◌, Bool, Result, Ok, Err, inl, inr, refl, sym, ap, ◌∙◌, arith, add-one, ne_eqb, OnErr, nat_cmp}
+use Rattle.std.proofs.Common.{◌≡◌, ℕ, zero, suc, ◌+◌, ◌<◌, ◌≤◌, Bool, false, Result, Ok, Err, inl, inr, refl, sym, ap, ◌∙◌, arith, add-one, ne_eqb, OnErr, nat_cmp}
 use Rattle.std.proofs.lemmas.Bool.{cases_eq}
 use Rattle.std.specs.FinMap.{FinMap}
 use Rattle.hv_defs.specs.Registers.{after_write, kept, row_of}
@@ -33,6 +33,15 @@ next_raised sint first v mail did is same =
     let here : has_next (at first.mail sint) ≡ has_next (at (shown_each sint first).mail sint) =
     ap has_next (sym (at-all_next sint first.mail sint (omega arith)) ∙ ap (λ m. at m sint) (sym (mail-shown_each sint first))) in
     rw (is, same, here, add-one) refl
+
+-- and those at which none became shown raise none
+pub none_raised_from : (n sint : ℕ) (first v : VpState) (mail : Mail) → v ≡ record (shown_each sint first) { mail = mail }
+    → ((k : ℕ) → sint ≤ k → k < sint + n → has_next (at first.mail k) ≡ false) → v ≡ record (shown_each (sint + n) first) { mail = mail }
+none_raised_from zero sint first v mail is none = is ∙ ap (λ m. record (shown_each m first) { mail = mail }) (omega arith)
+none_raised_from (suc n) sint first v mail is none =
+    let next : v ≡ record (shown_each (sint + 1) first) { mail = mail } = next_raised sint first v mail false is (sym (none sint (omega arith) (omega arith))) in
+    none_raised_from n (sint + 1) first v mail next (λ k from to. none k (omega arith) (omega arith))
+    ∙ ap (λ m. record (shown_each m first) { mail = mail }) (omega arith)
 
 -- and after the last it is Show at each
 pub all_raised : (n : ℕ) (v : VpState) → record (shown_each n v) { mail = all_next n v.mail } ≡ shown_each n v

@@ -174,6 +174,10 @@ impl<A: Allocator> Vp<A> {
         if self.ready_for_messages() {
             let shown = self.mailbox.advance_all();
             for sint in 0..SINTS as u8 {
+                // Most SINTs show no other one.
+                if shown >> sint == 0 {
+                    return;
+                }
                 if shown >> sint & 1 == 1 {
                     self.raise(sint);
                 }

@@ -1,36 +1,14 @@
-use Rattle.std.proofs.Common.{◌≡◌, ◌==◌, true, false, cond, sym, ap, ◌∙◌, arith, ne_eqb}
-use Rattle.std.proofs.lemmas.Nat.Bits.{shr_and_one}
-use Rattle.std.specs.Int.{bit_at}
-use Rattle.hv_defs.specs.Vectors.{VectorSet, raised}
+use Rattle.std.proofs.Common.{◌≡◌, cond, sym, ap, ◌∙◌, ne_eqb}
+use Rattle.hv_defs.specs.Vectors.{VectorSet}
+use Rattle.hv_defs.specs.declared.sizes.TheConstants.{SINTS}
 use Rattle.hv_admit.specs.Effect.{has_bit, quiet}
 use Rattle.hv_admit.specs.Ended.{vectors_of}
 use Rattle.hv_admit.specs.declared.effect.Effect.{Effect}
 use Rattle.hv_admit.specs.declared.effect.Effect.TheVariants as variant
-use Rattle.hv_processors.proofs.WrittenRegister.{vectors_next}
-use Rattle.hv_processors.proofs.writes.ended.Goals.{then-due-sint-eq1, else-due-sint-eq1}
 use Rattle.hv_processors.proofs.writes.ended.Goals as goal
-
-pub loop-sint-init : goal.loop-sint-init
-unfolding vectors_of
-loop-sint-init g c = c.new-raised.ensures
-
-pub loop-sint-preserved : goal.loop-sint-preserved
-loop-sint-preserved g c =
-    let due = c.args.due in
-    let sint = c.loop-sint.sint in
-    let next = vectors_next (has_bit due) c.args.vp.now.registers sint c.loop-sint.raised in
-    elim c.if-due-sint-eq1.branch [
-      | then-due-sint-eq1 w ↦
-          let set : has_bit due sint ≡ true = ap (λ b. b == 1) (sym (shr_and_one due sint) ∙ w.if-due-sint-eq1.true) in
-          next _ c.loop-sint.invariant true set (◌∙◌ {c = raised c.args.vp.now.registers sint c.loop-sint.raised} w.raised-is w.add_vector.ensures)
-      | else-due-sint-eq1 w ↦
-          let clear : has_bit due sint ≡ false = ne_eqb (bit_at due sint) 1 (λ e. w.if-due-sint-eq1.false (shr_and_one due sint ∙ e)) in
-          next _ c.loop-sint.invariant false clear w.raised-is
-    ]
 
 pub returns : goal.returns
 returns g c =
-    let last : c.loop-sint.sint ≡ 16 = omega arith in
     let effect : VectorSet → Effect = λ vectors. variant.Synic (record (quiet c.args.part c.args.index) { shown = c.args.due; raised = vectors }) in
-    let vectors = c.loop-sint.invariant ∙ ap (vectors_of (has_bit c.args.due) c.args.vp.now.registers) last in
-    ap effect vectors ∙ sym (ap (λ none. cond none variant.Nothing (effect (vectors_of (has_bit c.args.due) c.args.vp.now.registers 16))) (ne_eqb c.args.due 0 c.if-due-eq0.false))
+    ap effect c.raised_by.ensures
+    ∙ sym (ap (λ none. cond none variant.Nothing (effect (vectors_of (has_bit c.args.due) c.args.vp.now.registers SINTS))) (ne_eqb c.args.due 0 c.if-due-eq0.false))
