@@ -11,22 +11,22 @@ use Rattle.hv_history.specs.declared.entry.Entry.{Entry}
 use Rattle.hv_shared.specs.Due.{AreOf, IsDueAfter, left_of, lefts_of}
 use Rattle.hv_shared.specs.Merge.{IsNext, IsOf, SettlesAs, next_is}
 use Rattle.hv_shared.specs.Receipts.{receipt_of}
-use Rattle.hv_shared.specs.contracts.held.settlement.RestOrd.TheImpl as order
+use Rattle.hv_shared.specs.contracts.held.settlement.UnsettledOrd.TheImpl as order
 use Rattle.hv_shared.specs.declared.fault.SettleFault.{SettleFault}
 use Rattle.hv_shared.specs.declared.fault.SettleFault.TheVariants.{Differs, Missing}
-use Rattle.hv_shared.specs.declared.held.settlement.Rest.{Rest}
+use Rattle.hv_shared.specs.declared.held.settlement.Unsettled.{Unsettled}
 use Rattle.hv_shared.specs.declared.held.settlement.TheConstants.{NEVER}
 use Rattle.hv_shared.specs.declared.receipts.Receipt.{Receipt}
 use Rattle.hv_shared.proofs.ReorderedReceipts.{settles_permuted}
 use Rattle.hv_shared.proofs.PackedReceipts.{drop_at}
 
 -- the top of a heap is due first
-pub lowest : (x : Rest) (ys : List Rest) → IsUpperBound (order.ghosts).cmp x ys → All (λ y. x.due.0 ≤ y.due.0) ys
+pub lowest : (x : Unsettled) (ys : List Unsettled) → IsUpperBound (order.ghosts).cmp x ys → All (λ y. x.due.0 ≤ y.due.0) ys
 lowest x [] h = All-nil (λ y. x.due.0 ≤ y.due.0)
 lowest x (y ∷ ys) h = All-cons (λ z. x.due.0 ≤ z.due.0) y ys (ge_from_not_lt y.due.0 x.due.0 h.0) (lowest x ys h.1)
 
 -- and if it is due later than a number, so are all
-pub all_later : (n : ℕ) (x : Rest) (ys : List Rest) → IsUpperBound (order.ghosts).cmp x ys → n < x.due.0 → All (λ y. n < y.due.0) ys
+pub all_later : (n : ℕ) (x : Unsettled) (ys : List Unsettled) → IsUpperBound (order.ghosts).cmp x ys → n < x.due.0 → All (λ y. n < y.due.0) ys
 all_later n x ys low later = λ i d there. let l = lowest x ys low i d there in omega arith
 
 -- the first list has receipts of the first entries, and no other list has any of their numbers next
@@ -63,32 +63,32 @@ passed (suc count) n m (e ∷ es) (r ∷ rs) others fault m_is within are nobody
         subst (λ (k : ℕ). slice_get rs i ≡ Some (receipt_of k d)) place (are (suc i) d (omega arith) is)
 
 module _ (at : ℕ) (few : at + 1 < NEVER) where
-  next_due : (r : Rest) → IsDueAfter at r → r.due.0 ≡ at + 1 → next_is (at + 1) (left_of r) ≡ true
+  next_due : (r : Unsettled) → IsDueAfter at r → r.due.0 ≡ at + 1 → next_is (at + 1) (left_of r) ≡ true
   next_due r due is = due.found (at + 1) (omega arith) few ∙ eq-eqb _ _ is
 
-  first_next : (rs : List Rest) → All (IsDueAfter at) rs → 0 < length rs → ((d : Rest) → (get_or rs 0 d).due.0 ≡ at + 1) → IsNext (at + 1) (lefts_of rs) 0
+  first_next : (rs : List Unsettled) → All (IsDueAfter at) rs → 0 < length rs → ((d : Unsettled) → (get_or rs 0 d).due.0 ≡ at + 1) → IsNext (at + 1) (lefts_of rs) 0
   first_next [] due some first = absurd (omega arith)
   first_next (r ∷ rs) due some first = next_due r (All-head (IsDueAfter at) r rs due) (first r)
 
   -- none of those that are due later than a number has it next
-  nobody : (k : ℕ) (rs : List Rest) → at < k → k < NEVER → All (IsDueAfter at) rs → All (λ r. k < r.due.0) rs → (i : ℕ) → IsNext k (lefts_of rs) i → ⊥
+  nobody : (k : ℕ) (rs : List Unsettled) → at < k → k < NEVER → All (IsDueAfter at) rs → All (λ r. k < r.due.0) rs → (i : ℕ) → IsNext k (lefts_of rs) i → ⊥
   nobody k [] after few due later i next = cc
   nobody k (r ∷ rs) after few due later zero next =
       let here = All-head (IsDueAfter at) r rs due in
-      let past = All-head (λ (x : Rest). k < x.due.0) r rs later in
+      let past = All-head (λ (x : Unsettled). k < x.due.0) r rs later in
       false≢true (sym (here.found k after few ∙ ne_eqb r.due.0 k (omega arith)) ∙ next)
   nobody k (r ∷ rs) after few due later (suc i) next =
-      nobody k rs after few (All-tail (IsDueAfter at) r rs due) (All-tail (λ (x : Rest). k < x.due.0) r rs later) i next
+      nobody k rs after few (All-tail (IsDueAfter at) r rs due) (All-tail (λ (x : Unsettled). k < x.due.0) r rs later) i next
 
   module _ (es : List (Entry Global)) (e : Entry Global) (is : slice_get es at ≡ Some e) where
     here : (lists : List (List Receipt)) (fault : Option SettleFault) → SettlesAs (at + 1) (e ∷ drop (at + 1) es) lists fault → SettlesAs (at + 1) (drop at es) lists fault
     here lists fault s = subst (λ (l : List (Entry Global)). SettlesAs (at + 1) l lists fault) (sym (drop_at es at e is)) s
 
     -- nothing is left
-    pub empty : (old : List Rest) → length old ≡ 0 → SettlesAs (at + 1) (drop at es) (lefts_of old) (Some Missing)
+    pub empty : (old : List Unsettled) → length old ≡ 0 → SettlesAs (at + 1) (drop at es) (lefts_of old) (Some Missing)
     empty old none = here (lefts_of old) (Some Missing) (inl (inl (refl, nobody (at + 1) old (omega arith) few (λ i d there. absurd (omega arith)) (λ i d there. absurd (omega arith)))))
 
-    module _ (old new : List Rest) (x : Rest) (moved : IsPermutation old (x ∷ new)) (due : All (IsDueAfter at) old) (low : IsUpperBound (order.ghosts).cmp x new) where
+    module _ (old new : List Unsettled) (x : Unsettled) (moved : IsPermutation old (x ∷ new)) (due : All (IsDueAfter at) old) (low : IsUpperBound (order.ghosts).cmp x new) where
       first : IsDueAfter at x
       first = All-head (IsDueAfter at) x new (All-permutation (IsDueAfter at) old (x ∷ new) moved due)
 
@@ -120,14 +120,14 @@ module _ (at : ℕ) (few : at + 1 < NEVER) where
         pub none_before : All (λ r. at + 1 ≤ r.due.0) new
         none_before = λ i d there. let l = lowest x new low i d there in omega arith
 
-        pub contested : 0 < length new → ((d : Rest) → (get_or new 0 d).due.0 ≡ at + 1) → SettlesAs (at + 1) (drop at es) (lefts_of old) (Some Differs)
+        pub contested : 0 < length new → ((d : Unsettled) → (get_or new 0 d).due.0 ≡ at + 1) → SettlesAs (at + 1) (drop at es) (lefts_of old) (Some Differs)
         contested some second = settles (Some Differs) (inl (inr (refl, inl (0, 1, λ same. omega arith, next_due x first now, first_next new others some second))))
 
         pub differs : (IsOf e (left_of x) → ⊥) → SettlesAs (at + 1) (drop at es) (lefts_of old) (Some Differs)
         differs not = settles (Some Differs) (inl (inr (refl, inr (0, next_due x first now, not))))
 
         -- it is put back without its next receipts, and none of the others is due before they end
-        module _ (z : Rest) (zs : List Rest) (count until : ℕ) (put : IsPermutation (z ∷ new) zs) (later : All (λ r. until ≤ r.due.0) new) (less : at + count < until) where
+        module _ (z : Unsettled) (zs : List Unsettled) (count until : ℕ) (put : IsPermutation (z ∷ new) zs) (later : All (λ r. until ≤ r.due.0) new) (less : at + count < until) where
           behind : All (IsDueAfter (at + count)) new
           behind = λ i d there.
               let l = later i d there in

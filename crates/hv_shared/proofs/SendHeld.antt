@@ -16,7 +16,7 @@ use Rattle.hv_partition.specs.contracts.partition.Partition as Partition
 use Rattle.hv_policy.proofs.config.Config.TheSendSync as config
 use Rattle.hv_shared.specs.contracts.held.Held as Held
 use Rattle.hv_shared.specs.contracts.held.Held.TheInside as InHeld
-use Rattle.hv_shared.specs.contracts.held.settlement.Rest as Rest
+use Rattle.hv_shared.specs.contracts.held.settlement.Unsettled as Unsettled
 use Rattle.hv_shared.specs.contracts.shared.Shared.TheInside as InShared
 use Rattle.std.proofs.sync.ledger.Book.TheSendSync as book
 use Rattle.hv_shared.specs.contracts.shared.Shared as Shared
@@ -56,7 +56,7 @@ kept-send = search (machine-send, history-send, crosses, sendable) depth 60 fits
 pub history-sync : IsSync (History.the_field Heap.the_row ghosts).row
 history-sync = search (crosses, sendable) depth 60 fits 20000
 
-pub rest-sync : IsSync Rest.the_row
+pub rest-sync : IsSync Unsettled.the_row
 rest-sync = search (history-sync, crosses, sendable) depth 60 fits 20000
 
 module _ (T : RattleType) (g : Ledger.Ghosts T.Denot) where

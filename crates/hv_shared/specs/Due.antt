@@ -5,8 +5,8 @@ use Rattle.std.specs.BinaryHeap.{IsHeap}
 use Rattle.hv_history.specs.declared.entry.Entry.{Entry}
 use Rattle.hv_shared.specs.Merge.{next_is}
 use Rattle.hv_shared.specs.Receipts.{list_of, receipt_of}
-use Rattle.hv_shared.specs.contracts.held.settlement.RestOrd.TheImpl as order
-use Rattle.hv_shared.specs.declared.held.settlement.Rest.{Rest}
+use Rattle.hv_shared.specs.contracts.held.settlement.UnsettledOrd.TheImpl as order
+use Rattle.hv_shared.specs.declared.held.settlement.Unsettled.{Unsettled}
 use Rattle.hv_shared.specs.declared.held.settlement.TheConstants.{NEVER}
 use Rattle.hv_shared.specs.declared.receipts.Receipt.{Receipt}
 
@@ -22,15 +22,15 @@ AreOf n entries list count = (i : ℕ) (e : Entry Global) → i < count → slic
     → slice_get list i ≡ Some (receipt_of (n + i) e)
 
 -- the receipts that are still to be found
-abbrev pub left_of : Rest → List Receipt
+abbrev pub left_of : Unsettled → List Receipt
 left_of rest = drop rest.found (list_of rest.receipts.value)
 
-abbrev pub lefts_of : List Rest → List (List Receipt)
+abbrev pub lefts_of : List Unsettled → List (List Receipt)
 lefts_of rests = map left_of rests
 
-abbrev pub IsDueAfter : ℕ → Rest → Type 0
+abbrev pub IsDueAfter : ℕ → Unsettled → Type 0
 IsDueAfter n rest = IsDue n rest.due.0 (left_of rest)
 
 -- the one that is due first is on top
-abbrev pub AreHeap : List Rest → Type 0
+abbrev pub AreHeap : List Unsettled → Type 0
 AreHeap rests = IsHeap (order.ghosts).cmp rests

@@ -27,7 +27,7 @@ use std::sync::ledger::{Blank, Book, Ledger, Share};
 
 mod settlement;
 
-pub(crate) use settlement::Rest;
+pub(crate) use settlement::Unsettled;
 pub use settlement::settle;
 
 /// What one thread owns: its caller, the receipts of its events, and its share of the count of all events.

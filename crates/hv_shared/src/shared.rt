@@ -11,7 +11,7 @@ ghost use Rattle.hv_shared.specs.Shared.{AreOpened};
 
 use crate::drive::{DriveRefused, MOST_IN_A_HOLD, prepare};
 use crate::gate::Gate;
-use crate::held::{Held, Pass, Rest};
+use crate::held::{Held, Pass, Unsettled};
 use hv_abi::{Frame, InputValue, ResultValue, restarted};
 use hv_history::{HostRefused, Kept, RunDone, next_of};
 use hv_policy::{Action, Caller, Config, Event, Reply, result_value};
@@ -30,7 +30,7 @@ pub struct Shared<L: Ledger> {
     config: Config,
     limit: u32,
     // Room for the receipts of each pass, for the settlement.
-    room: Vec<Rest>,
+    room: Vec<Unsettled>,
 }
 
 impl<L: Ledger> Model for Shared<L> {
@@ -116,7 +116,7 @@ impl<L: Ledger> Shared<L> {
     }
 
     // Returns the lock's contents, room for the settlement, and the configuration and limit of the history.
-    pub(crate) fn into_parts(self) -> (Held<L>, Vec<Rest>, Config, u32)
+    pub(crate) fn into_parts(self) -> (Held<L>, Vec<Unsettled>, Config, u32)
         ensures room { (result.1.items ≡ []) × (L.parts ≤ vec_capacity result.1) }
         ensures config { result.2 ≡ self.config }
         ensures limit { result.3 ≡ self.limit }

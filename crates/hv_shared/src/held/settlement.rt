@@ -29,7 +29,7 @@ pub(crate) const NEVER: u64 = u64::MAX;
 // the greater, so it comes first out of a heap.
 #[derive(Drop)]
 #[derive_where(PartialEq, Eq, PartialOrd, Ord)]
-pub(crate) struct Rest {
+pub(crate) struct Unsettled {
     // The number of the next receipt, or `NEVER`.
     due: Reverse<u64>,
     #[derive_where(skip(EqHashOrd))]
@@ -39,14 +39,14 @@ pub(crate) struct Rest {
     found: usize,
 }
 
-impl Rest {
+impl Unsettled {
     // Returns a pass's receipts, of which none was found.
-    fn new(receipts: Box<Receipts>) -> Rest
+    fn new(receipts: Box<Receipts>) -> Unsettled
         ensures left { left_of result ≡ list_of receipts.value }
         ensures due { IsDueAfter 0 result }
     {
         let due = Reverse(due_after(&receipts, 0, 0));
-        Rest {
+        Unsettled {
             due,
             receipts,
             found: 0,
@@ -97,7 +97,7 @@ fn due_after(receipts: &Receipts, at: usize, number: u64) -> u64
 
 // Takes the passes apart: adds the receipts of each, the last pass first, and audits the book. With every
 // pass present, its total is the sum of their shares.
-fn take_apart<L: Ledger>(book: Book<L>, passes: Vec<Pass<L>>, rests: &mut Vec<Rest>)
+fn take_apart<L: Ledger>(book: Book<L>, passes: Vec<Pass<L>>, rests: &mut Vec<Unsettled>)
     requires some { 0 < L.parts }
     requires empty { rests.old.items ≡ [] }
     requires room { L.parts ≤ vec_capacity rests.old }
@@ -111,11 +111,11 @@ fn take_apart<L: Ledger>(book: Book<L>, passes: Vec<Pass<L>>, rests: &mut Vec<Re
         return;
     };
     let (mut all, receipts) = first.into_parts();
-    rests.push_reserved(Rest::new(receipts));
+    rests.push_reserved(Unsettled::new(receipts));
     while let Some(pass) = passes.pop() {
         let (share, receipts) = pass.into_parts();
         all.merge(share);
-        rests.push_reserved(Rest::new(receipts));
+        rests.push_reserved(Unsettled::new(receipts));
     }
     book.audit(&mut all);
 }
@@ -124,7 +124,7 @@ fn take_apart<L: Ledger>(book: Book<L>, passes: Vec<Pass<L>>, rests: &mut Vec<Re
 // the place behind them. That rest alone has their numbers, with the events and the replies. What is left
 // then decides.
 fn find_next(
-    heap: &mut BinaryHeap<Rest>,
+    heap: &mut BinaryHeap<Unsettled>,
     history: &History<Global>,
     at: usize,
 ) -> Result<usize, SettleFault>
@@ -163,12 +163,12 @@ fn find_next(
 }
 
 // Returns the number at which the first of the heap is due, or `NEVER`.
-fn first_due(heap: &BinaryHeap<Rest>) -> u64
+fn first_due(heap: &BinaryHeap<Unsettled>) -> u64
     requires { AreHeap (heap_items heap.now) }
     ensures all { All (λ rest. result ≤ rest.due.0) (heap_items heap.now) }
     ensures least { (n : ℕ) → n ≤ NEVER → All (λ rest. n ≤ rest.due.0) (heap_items heap.now) → n ≤ result }
     ensures first { result < NEVER → (0 < length (heap_items heap.now))
-        × ((d : Rest) → (slice_index_or (heap_items heap.now) 0 d).due.0 ≡ result) }
+        × ((d : Unsettled) → (slice_index_or (heap_items heap.now) 0 d).due.0 ≡ result) }
 {
     match heap.peek() {
         Some(rest) => rest.due.0,
@@ -177,7 +177,7 @@ fn first_due(heap: &BinaryHeap<Rest>) -> u64
 }
 
 // Returns the first fault of the receipts against the history, if there is one.
-fn first_fault(history: &History<Global>, rests: Vec<Rest>) -> Option<SettleFault>
+fn first_fault(history: &History<Global>, rests: Vec<Unsettled>) -> Option<SettleFault>
     requires never { length (entries history.now) < NEVER }
     requires due { All (IsDueAfter 0) rests.items }
     ensures none { IfNone result (SettlesAs 1 (entries history.now) (lefts_of (reverse rests.items)) None) }
@@ -200,7 +200,7 @@ fn first_fault(history: &History<Global>, rests: Vec<Rest>) -> Option<SettleFaul
 }
 
 // Whether no receipt is left to find.
-fn are_empty(rests: &[Rest]) -> bool
+fn are_empty(rests: &[Unsettled]) -> bool
     ensures { IsTrue result ↔ AreDone (lefts_of rests.now) }
 {
     for rest in rests {
@@ -217,7 +217,7 @@ fn fault_of(
     kept: &Kept<Global>,
     config: Config,
     limit: u32,
-    rests: Vec<Rest>,
+    rests: Vec<Unsettled>,
 ) -> Option<SettleFault>
     requires { All (IsDueAfter 0) rests.items }
     ensures none { IfNone result (IsMadeOf config limit kept.now (lefts_of (reverse rests.items))) }

@@ -5,12 +5,12 @@ use Rattle.std.proofs.lemmas.List.Sums.{sum_by_push}
 use Rattle.hv_shared.specs.Due.{IsDueAfter, left_of, lefts_of}
 use Rattle.hv_shared.specs.Merge.{receipts_of, shares_of}
 use Rattle.hv_shared.specs.PassValue.{PassValue}
-use Rattle.hv_shared.specs.declared.held.settlement.Rest.{Rest}
+use Rattle.hv_shared.specs.declared.held.settlement.Unsettled.{Unsettled}
 use Rattle.hv_shared.specs.declared.receipts.Receipt.{Receipt}
 use Rattle.hv_shared.proofs.held.settlement.take_apart.Goals as goal
 
 -- one pass more
-one_more : (ps : List PassValue) (p : PassValue) (rs : List Rest) (r : Rest) (all : List (List Receipt)) → left_of r ≡ p.receipts → receipts_of (ps ++ p ∷ []) ++ lefts_of (reverse rs) ≡ all
+one_more : (ps : List PassValue) (p : PassValue) (rs : List Unsettled) (r : Unsettled) (all : List (List Receipt)) → left_of r ≡ p.receipts → receipts_of (ps ++ p ∷ []) ++ lefts_of (reverse rs) ≡ all
     → receipts_of ps ++ lefts_of (reverse (rs ++ r ∷ [])) ≡ all
 one_more ps p rs r all same so_far =
     rw (reverse-append rs (r ∷ []), same)

@@ -3,7 +3,7 @@ use Rattle.std.proofs.lemmas.List.{drop_all}
 use Rattle.hv_shared.specs.Receipts.{list_of}
 use Rattle.hv_shared.specs.declared.receipts.Receipts.{Receipts}
 use Rattle.hv_shared.proofs.PackedReceipts.{all_past}
-use Rattle.hv_shared.proofs.held.settlement.Rest.is_empty.Goals as goal
+use Rattle.hv_shared.proofs.held.settlement.Unsettled.is_empty.Goals as goal
 
 pub returns : goal.returns
 returns c =
