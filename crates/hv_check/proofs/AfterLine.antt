@@ -395,7 +395,8 @@ module _ (rules : Bool) (old_kept new_kept : Kept Global) (new : Schedule) (line
 
   -- behind its line the rest of the audit is legal just where it was before it
   pub moved : (rest : Bytes) → IsLine rules (length old_kept.history + 1) e text rest → HasMoved rules old_kept new_kept new lines text rest
-  moved rest line = record { left = one.left; stands = one.stands; forth = left_forth rest line; back = left_back rest line }
+  unfolding left_back
+  moved rest line = record { left = one.left; stands = one.stands; forth = left_forth rest line; back = left_back rest line; one = λ prefix is. refl }
 
   -- and no audit is legal where it differs
   pub differs : ((rest : Bytes) → IsLine rules (length old_kept.history + 1) e text rest → ⊥) → (prefix : Bool) → IsLegalFrom prefix rules old_kept lines text → ⊥

@@ -1,7 +1,7 @@
 -- The end of an audit, and steps one after another.
-use Rattle.std.proofs.Common.{◌≡◌, ℕ, ◌+◌, ◌<◌, ◌≢◌, ◌^◌, [], ◌∷◌, refl, sym, subst, arith, append-nil, length, Bool, true, false, inl, inr, Global}
+use Rattle.std.proofs.Common.{◌≡◌, ℕ, ◌+◌, ◌<◌, ◌≢◌, ◌^◌, [], ◌∷◌, refl, sym, ap, ◌∙◌, subst, arith, append-nil, length, Bool, true, false, inl, inr, Global}
 use Rattle.hv_history.specs.Kept.{IsRun, Kept}
-use Rattle.hv_check.specs.From.{HasMoved, IsEnding, IsLastLine, IsLegalFrom, IsNoLine, IsOver}
+use Rattle.hv_check.specs.From.{HasMoved, IsEnding, IsLastLine, IsLegalFrom, IsLegalFromWith, IsNoLine, IsOver}
 use Rattle.hv_check.specs.Legal.{AreLines, IsEnd}
 use Rattle.hv_phases.specs.Schedule.{IsBegun, IsIdle, StandsFor}
 use Rattle.hv_check.specs.Takes.{Takes}
@@ -45,6 +45,10 @@ module _ (kept : Kept Global) (schedule : Schedule) (text : Bytes) (prefix : Boo
         told = subst (λ (n : ℕ). IsEnd prefix n text) count is.1;
       }
 
+  pub ends_with : IsEnding prefix schedule events text Good → IsLegalFromWith prefix rules kept lines text events
+  unfolding ends_well
+  ends_with good = record { legal = ends_well good; count = sym count }
+
   pub ends_badly : ((lines : Lines) → StandsFor schedule lines → IsOver prefix lines → IsEnd prefix events text → ⊥) → IsNoLine text → IsLegalFrom prefix rules kept lines text → ⊥
   ends_badly bad no_line is = with_more is.more is.takes is.told
     where
@@ -54,7 +58,7 @@ module _ (kept : Kept Global) (schedule : Schedule) (text : Bytes) (prefix : Boo
 
 -- nothing was taken
 pub not_moved : (rules : Bool) (k : Kept Global) (schedule : Schedule) (lines : Lines) (text : Bytes) → StandsFor schedule lines → HasMoved rules k k schedule lines text text
-not_moved rules k schedule lines text stands = record { left = lines; stands = stands; forth = λ prefix is. is; back = λ prefix is. is }
+not_moved rules k schedule lines text stands = record { left = lines; stands = stands; forth = λ prefix is. is; back = λ prefix is. is; one = λ prefix is. refl }
 
 -- a line more
 pub moved_on : (rules : Bool) (a b c : Kept Global) (mid new : Schedule) (lines : Lines) (text behind rest : Bytes) (first : HasMoved rules a b mid lines text behind)
@@ -66,9 +70,19 @@ moved_on rules a b c mid new lines text behind rest first then = record {
   stands = then.stands;
   forth = λ prefix is. then.forth prefix (first.forth prefix is);
   back = λ prefix is. first.back prefix (then.back prefix is);
+  one = λ prefix is. first.one prefix (then.back prefix is) ∙ then.one prefix is;
 }
 
 -- and a phase that begins
 pub moved_begun : (rules : Bool) (a b : Kept Global) (old new : Schedule) (lines : Lines) (text rest : Bytes) (first : HasMoved rules a b old lines text rest) → StandsFor new first.left
     → HasMoved rules a b new lines text rest
-moved_begun rules a b old new lines text rest first stands = record { left = first.left; stands = stands; forth = first.forth; back = first.back }
+moved_begun rules a b old new lines text rest first stands = record { left = first.left; stands = stands; forth = first.forth; back = first.back; one = first.one }
+
+-- the number of events of what is legal behind a line
+pub counted_back : (rules : Bool) (a b : Kept Global) (new : Schedule) (lines : Lines) (text rest : Bytes) (moved : HasMoved rules a b new lines text rest) (prefix : Bool) (events : ℕ)
+    → IsLegalFromWith prefix rules b moved.left rest events
+    → IsLegalFromWith prefix rules a lines text events
+counted_back rules a b new lines text rest moved prefix events is = record {
+  legal = moved.back prefix is.legal;
+  count = ap (λ (k : Kept Global). length k.history) (moved.one prefix is.legal) ∙ is.count;
+}

@@ -1,13 +1,13 @@
 -- From a script's lines to its text.
-use Rattle.std.proofs.Common.{◌≡◌, refl, sym, ◌∙◌, subst, Bool, Ok, Err, None, Some, Global}
+use Rattle.std.proofs.Common.{◌≡◌, ℕ, refl, sym, ◌∙◌, subst, Bool, Ok, Err, None, Some, Global}
 use Rattle.hv_policy.specs.BootFault.{IsBootRefusal, boot_fault}
 use Rattle.hv_policy.specs.declared.config.BootRefused.{BootRefused}
 use Rattle.hv_policy.specs.declared.config.BootRefused.TheVariants as refused
 use Rattle.hv_policy.specs.declared.config.Config.{Config}
 use Rattle.hv_script.specs.Script.{Said, script_of}
 use Rattle.hv_script.specs.declared.fault.ScriptFault.{ScriptFault}
-use Rattle.hv_check.specs.Legal.{IsLegal, IsLegalOf}
-use Rattle.hv_check.specs.Verdict.{Says}
+use Rattle.hv_check.specs.Legal.{IsLegal, IsLegalOf, IsLegalOfWith, IsLegalWith}
+use Rattle.hv_check.specs.Verdict.{Counts, Says}
 use Rattle.hv_check.specs.declared.verdict.Verdict.{Verdict}
 use Rattle.hv_check.specs.declared.verdict.Verdict.TheVariants.{Legal, Illegal}
 use Rattle.hv_check.proofs.LineTexts.{Bytes}
@@ -16,6 +16,14 @@ use Rattle.hv_check.proofs.LineTexts.{Bytes}
 pub says_map : (verdict : Verdict) (P Q : Type 0) → (P → Q) → (Q → P) → Says verdict P → Says verdict Q
 says_map (Legal events) P Q there back is = there is
 says_map (Illegal wrong text) P Q there back is = λ q. is (back q)
+
+pub counts_map : (verdict : Verdict) (P Q : ℕ → Type 0) → ((events : ℕ) → P events → Q events) → Counts verdict P → Counts verdict Q
+counts_map (Legal events) P Q there is = there events is
+counts_map (Illegal wrong text) P Q there is = tt
+
+pub to_text_with : (prefix rules : Bool) (script bytes : Bytes) (said : Said Global) → script_of script ≡ Ok said → (events : ℕ) → IsLegalWith prefix rules said bytes events
+    → IsLegalOfWith prefix rules script bytes events
+to_text_with prefix rules script bytes said is events legal = record { said = said; is = is; legal = legal }
 
 pub to_text : (prefix rules : Bool) (script bytes : Bytes) (said : Said Global) → script_of script ≡ Ok said → IsLegal prefix rules said bytes → IsLegalOf prefix rules script bytes
 to_text prefix rules script bytes said is legal = record { said = said; is = is; legal = legal }

@@ -3,8 +3,8 @@ use Rattle.std.proofs.Common.{◌≡◌, ℕ, ◌+◌, [], ◌++◌, refl, sym, 
 use Rattle.hv_history.specs.Kept.{Kept}
 use Rattle.hv_script.specs.Script.{Said}
 use Rattle.hv_text.specs.Audit.{entries_text}
-use Rattle.hv_check.specs.From.{IsLegalFrom, IsOver}
-use Rattle.hv_check.specs.Legal.{AreLines, AreTaken, IsAudit, IsLegal, end_text}
+use Rattle.hv_check.specs.From.{IsLegalFrom, IsLegalFromWith, IsOver}
+use Rattle.hv_check.specs.Legal.{AreLines, AreTaken, IsAudit, IsLegal, IsLegalWith, end_text}
 use Rattle.hv_phases.specs.Read.{AreRead}
 use Rattle.hv_check.specs.Takes.{Takes}
 use Rattle.hv_check.proofs.RemainingActions.{Entries}
@@ -55,6 +55,10 @@ module _ (prefix rules : Bool) (k : Kept Global) (said : Said Global) (text : By
             (subst (λ (n : ℕ). AreLines prefix rules n is.more text) (ap length none) is.told)
             );
       }
+
+  pub legal_with : (events : ℕ) → IsLegalFromWith prefix rules k said.lines text events → IsLegalWith prefix rules said text events
+  unfolding legal_of
+  legal_with events is = record { legal = legal_of is.legal; count = is.count }
 
   pub legal_from : AreRead said.lines → IsLegal prefix rules said text → IsLegalFrom prefix rules k said.lines text
   legal_from read is =

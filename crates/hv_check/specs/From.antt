@@ -35,6 +35,12 @@ pub record IsLegalFrom (prefix rules : Bool) (k : Kept Global) (lines : List (Li
   pub over : IsOver prefix left
   pub told : AreLines prefix rules (length k.history) more text
 
+-- and the whole run has this number of events
+pub record IsLegalFromWith (prefix rules : Bool) (k : Kept Global) (lines : List (Line Global))
+    (text : List ℕ) (events : ℕ) : Type 0 where
+  pub legal : IsLegalFrom prefix rules k lines text
+  pub count : length legal.kept.history ≡ events
+
 -- the text begins with a number and this processor
 pub record IsNamedIn (text : List ℕ) (by : Caller) : Type 0 where
   pub number : ℕ
@@ -54,7 +60,7 @@ abbrev pub IsNoLine : List ℕ → Type 0
 IsNoLine text = (rules : Bool) (number : ℕ) (entry : Entry Global) (rest : List ℕ) → number < 2 ^ 64 → IsLine
     rules number entry text rest → ⊥
 
--- after a line, the rest of the audit is legal exactly if the text was legal before it
+-- after a line, the rest of the audit is legal exactly if the text was legal before it, as that of one run
 pub record HasMoved (rules : Bool) (old_kept new_kept : Kept Global) (new : Schedule)
     (lines : List (Line Global)) (text rest : List ℕ) : Type 0 where
   pub left : List (Line Global)
@@ -63,6 +69,8 @@ pub record HasMoved (rules : Bool) (old_kept new_kept : Kept Global) (new : Sche
       new_kept left rest
   pub back : (prefix : Bool) → IsLegalFrom prefix rules new_kept left rest → IsLegalFrom prefix rules old_kept
       lines text
+  pub one : (prefix : Bool) (is : IsLegalFrom prefix rules new_kept left rest) → (back prefix is).kept
+      ≡ is.kept
 
 -- either a line was taken, or no legal audit continues with this text
 abbrev pub IsStep : Bool → Kept Global → Kept Global → Schedule → Schedule → List ℕ → Step → Type 0

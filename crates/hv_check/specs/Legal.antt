@@ -1,6 +1,6 @@
 -- When an audit is a legal run of a script.
 use Rattle.std.specs.Prelude.{ℕ, ◌≡◌, ◌≢◌, ◌⊎◌, ◌+◌, Bool, true, false, List, [], ◌∷◌, ◌++◌, All}
-use Rattle.std.specs.Prelude.{codes, decimal, Ok}
+use Rattle.std.specs.Prelude.{codes, decimal, length, Ok}
 use Rattle.std.specs.declared.alloc.Global.{Global}
 use Rattle.hv_history.specs.Kept.{Kept, IsRun}
 use Rattle.hv_history.specs.declared.entry.Entry.{Entry}
@@ -92,8 +92,19 @@ pub record IsLegal (prefix rules : Bool) (said : Said Global) (bytes : List ℕ)
   pub lines : AreTaken prefix said.lines kept.history
   pub told : IsAudit prefix rules kept.history bytes
 
+-- the audit is legal, as that of a run with this number of events
+pub record IsLegalWith (prefix rules : Bool) (said : Said Global) (bytes : List ℕ) (events : ℕ) : Type 0 where
+  pub legal : IsLegal prefix rules said bytes
+  pub count : length legal.kept.history ≡ events
+
 -- the bytes are a legal audit of the script with this text
 pub record IsLegalOf (prefix rules : Bool) (script bytes : List ℕ) : Type 0 where
   pub said : Said Global
   pub is : script_of script ≡ Ok said
   pub legal : IsLegal prefix rules said bytes
+
+-- and that of a run with this number of events
+pub record IsLegalOfWith (prefix rules : Bool) (script bytes : List ℕ) (events : ℕ) : Type 0 where
+  pub said : Said Global
+  pub is : script_of script ≡ Ok said
+  pub legal : IsLegalWith prefix rules said bytes events

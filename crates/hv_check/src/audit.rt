@@ -5,12 +5,13 @@ ghost use Rattle.hv_script.specs.Reading.{said};
 ghost use Rattle.hv_script.specs.declared.line.Line.{Line as LineValue};
 ghost use Rattle.hv_run.specs.Failure.{exit_of};
 ghost use Rattle.hv_run.specs.declared.failure.Exit.TheVariants as exit;
-ghost use Rattle.hv_check.specs.From.{IsLegalFrom, IsNoEnd, IsNoLine};
-ghost use Rattle.hv_check.specs.Legal.{IsLegal};
+ghost use Rattle.hv_run.specs.declared.failure.Failure.TheVariants as failure;
+ghost use Rattle.hv_check.specs.From.{IsLegalFrom, IsLegalFromWith, IsNoEnd, IsNoLine};
+ghost use Rattle.hv_check.specs.Legal.{IsLegal, IsLegalWith};
 ghost use Rattle.hv_phases.specs.Read.{AreRead};
 ghost use Rattle.hv_phases.specs.Schedule.{IsBegun, StandsFor};
 ghost use Rattle.hv_history.specs.Kept.{IsRun};
-ghost use Rattle.hv_check.specs.Verdict.{Says};
+ghost use Rattle.hv_check.specs.Verdict.{Counts, Says};
 
 use crate::compare::behind;
 use crate::ending::{Ending, end_of};
@@ -38,8 +39,11 @@ pub fn check<'a>(
     requires { AreRead script.lines.items }
     ensures verdict { IfOk result (λ verdict. Says verdict
         (IsLegal ask.prefix ask.rules (said script) audit.now)) }
+    ensures count { IfOk result (λ verdict. Counts verdict
+        (IsLegalWith ask.prefix ask.rules (said script) audit.now)) }
     ensures refused { IfErr result (λ failure. exit_of failure ≡ exit.Script
         → IsLegal ask.prefix ask.rules (said script) audit.now → ⊥) }
+    ensures host { IfErr result (λ why. exit_of why ≡ exit.Host → why ≡ failure.Memory) }
 {
     let Script {
         config,
@@ -66,8 +70,12 @@ fn follow<'a>(
     audit: &'a [u8],
     ask: Ask,
 ) -> Result<Verdict<'a>, AllocError>
-    ensures { IfOk result (λ verdict. (lines : List (LineValue GlobalValue)) → StandsFor schedule.old lines
+    ensures verdict { IfOk result (λ verdict. (lines : List (LineValue GlobalValue))
+        → StandsFor schedule.old lines
         → Says verdict (IsLegalFrom ask.prefix ask.rules kept.old lines audit.now)) }
+    ensures count { IfOk result (λ verdict. (lines : List (LineValue GlobalValue))
+        → StandsFor schedule.old lines
+        → Counts verdict (IsLegalFromWith ask.prefix ask.rules kept.old lines audit.now)) }
 {
     let mut text = audit;
     schedule.begin()?;
@@ -85,8 +93,10 @@ fn follow<'a>(
 fn judge<'a>(kept: &Kept<Global>, schedule: &Schedule, text: &'a [u8], prefix: bool) -> Verdict<'a>
     requires begun { IsBegun schedule.now }
     requires no_line { IsNoLine text.now }
-    ensures { (rules : Bool) (lines : List (LineValue GlobalValue)) → StandsFor schedule.now lines
+    ensures verdict { (rules : Bool) (lines : List (LineValue GlobalValue)) → StandsFor schedule.now lines
         → Says result (IsLegalFrom prefix rules kept.now lines text.now) }
+    ensures count { (rules : Bool) (lines : List (LineValue GlobalValue)) → StandsFor schedule.now lines
+        → Counts result (IsLegalFromWith prefix rules kept.now lines text.now) }
 {
     let events = events_of(kept);
     match end_of(schedule, text, events, prefix) {

@@ -3,8 +3,8 @@
 ghost use Rattle.std.specs.Prelude.{◌≡◌, ◌≢◌, IfErr, IfOk};
 ghost use Rattle.hv_run.specs.Failure.{exit_of};
 ghost use Rattle.hv_run.specs.declared.failure.Exit.TheVariants as exit;
-ghost use Rattle.hv_check.specs.Legal.{IsLegalOf};
-ghost use Rattle.hv_check.specs.Verdict.{Says, status_of};
+ghost use Rattle.hv_check.specs.Legal.{IsLegalOf, IsLegalOfWith};
+ghost use Rattle.hv_check.specs.Verdict.{Counts, Says, status_of};
 
 use crate::audit::check;
 use crate::ending::is_last_line;
@@ -123,6 +123,8 @@ fn verdict_of<'a>(
 ) -> Result<Verdict<'a>, Failure>
     ensures verdict { IfOk result (λ verdict. Says verdict
         (IsLegalOf ask.prefix ask.rules script.now audit.now)) }
+    ensures count { IfOk result (λ verdict. Counts verdict
+        (IsLegalOfWith ask.prefix ask.rules script.now audit.now)) }
     ensures refused { IfErr result (λ failure. exit_of failure ≡ exit.Script
         → IsLegalOf ask.prefix ask.rules script.now audit.now → ⊥) }
 {

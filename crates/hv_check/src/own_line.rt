@@ -30,7 +30,9 @@ impl Model for OwnLine {
 
 impl OwnLine {
     /// Returns an empty line.
-    pub fn new() -> OwnLine {
+    pub fn new() -> OwnLine
+        ensures { result ≡ [] }
+    {
         OwnLine {
             scratch: Scratch::new(),
             bytes: [0; LINE],
