@@ -1,3 +1,4 @@
+mod Framing
 mod WrittenParts
 mod JoinedMembers
 pub mod JoinedNumbers

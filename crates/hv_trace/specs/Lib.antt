@@ -1,4 +1,5 @@
 pub mod Effect
+pub mod Framed
 pub mod Members
 pub mod Perfetto
 pub mod Report

@@ -19,6 +19,9 @@
 //! and its object, and a fixed tail, whose program shows them. `specs/Report.antt` says so, and that the
 //! lines of events have no `<`: no text of a script is read as HTML, and none ends the element that the lines
 //! stand in.
+//!
+//! After a failure the output is a first part of what is written about the first events: `specs/Part.antt` of
+//! `hv_explain`, and `specs/Framed.antt`.
 #![tactic(auto)]
 
 mod answer;
@@ -26,6 +29,7 @@ mod asked;
 mod boots;
 mod effect;
 mod fields;
+mod frame;
 mod lines;
 mod members;
 mod object;

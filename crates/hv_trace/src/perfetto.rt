@@ -1,8 +1,9 @@
 // Charting a script, from its text to an exit status.
-ghost use Rattle.std.specs.Prelude.{◌≡◌, ◌≢◌, IfErr, IsOk, OnOk};
-ghost use Rattle.std.specs.Io.KnownBytes.{Appends};
+ghost use Rattle.std.specs.Prelude.{◌≡◌, ◌≢◌, ◌⊎◌, Err, IfErr, IfOk, IsOk};
+ghost use Rattle.hv_explain.specs.Part.{HasPutPart, TellsPartOf};
 ghost use Rattle.hv_run.specs.Failure.{CanRun, exit_of};
-ghost use Rattle.hv_trace.specs.Perfetto.{HasCharted, closing_text};
+ghost use Rattle.hv_trace.specs.Framed.{IsFramed};
+ghost use Rattle.hv_trace.specs.Perfetto.{HasCharted, charts, closing_text, opening_text};
 
 mod chart;
 mod lane;
@@ -11,18 +12,19 @@ mod note;
 mod slice;
 
 use crate::boots::try_boot;
+use crate::frame::{close, open};
 use crate::perfetto::chart::Chart;
-use hv_explain::explain_with;
+use hv_explain::tell_script;
 use hv_run::{Exit, Failure, tell};
 use std::alloc::Global;
-use std::io;
 use std::io::Write;
 
 /// Runs a script's lines in order, and writes the run in the Chrome trace event form on `out`.
 ///
 /// The events are those of `explain_text` of `hv_explain`. If not everything runs, the reason goes to `err`,
 /// in one line. After a fault of the script or a refused boot, nothing is written to `out`. If the host
-/// refuses an event, the array has the events before it.
+/// refuses an event, the array has the events before it. After a failed write, `out` has a first part of an
+/// array.
 pub fn perfetto_text<W: Write, E: Write>(
     alloc: Global,
     script: &[u8],
@@ -30,6 +32,9 @@ pub fn perfetto_text<W: Write, E: Write>(
     err: &mut E,
 ) -> Exit
     ensures charted { result ≡ Exit.Done → HasCharted script.now (W.contents out.old) (W.contents out.new) }
+    ensures failed { result ≢ Exit.Done → HasPutPart
+        (IsFramed opening_text closing_text (TellsPartOf charts script.now)) (W.contents out.old)
+        (W.contents out.new) }
     ensures silent { result ≡ Exit.Script → out.new ≡ out.old }
     ensures faulty { result ≡ Exit.Script → CanRun script.now → ⊥ }
     ensures no_usage { result ≢ Exit.Usage }
@@ -42,7 +47,8 @@ pub fn perfetto_text<W: Write, E: Write>(
 
 // Creates the teller of a script. `Err` if the script has a fault, or its machine doesn't boot.
 fn prepare(alloc: Global, script: &[u8]) -> Result<Chart, Failure>
-    ensures { IfErr result (λ failure. exit_of failure ≡ Exit.Script → CanRun script.now → ⊥) }
+    ensures runs { IfOk result (λ chart. CanRun script.now) }
+    ensures faulty { IfErr result (λ failure. exit_of failure ≡ Exit.Script → CanRun script.now → ⊥) }
 {
     try_boot(alloc, script)?;
     match Chart::new(alloc) {
@@ -51,7 +57,7 @@ fn prepare(alloc: Global, script: &[u8]) -> Result<Chart, Failure>
     }
 }
 
-// Writes the array of a script that has no fault, and whose machine boots.
+// Writes the array of a script that runs.
 fn write_array<W: Write, E: Write>(
     alloc: Global,
     mut chart: Chart,
@@ -59,40 +65,30 @@ fn write_array<W: Write, E: Write>(
     out: &mut W,
     err: &mut E,
 ) -> Exit
+    requires { CanRun script.now }
     ensures charted { result ≡ Exit.Done → HasCharted script.now (W.contents out.old) (W.contents out.new) }
-    ensures no_script { result ≢ Exit.Script }
-    ensures no_usage { result ≢ Exit.Usage }
+    ensures failed { result ≢ Exit.Done → HasPutPart
+        (IsFramed opening_text closing_text (TellsPartOf charts script.now)) (W.contents out.old)
+        (W.contents out.new) }
+    ensures status { (result ≡ Exit.Done) ⊎ (result ≡ Exit.Host) }
 {
     let opening =
-        b"[{\"ph\":\"M\",\"name\":\"process_name\",\"pid\":1,\"args\":{\"name\":\"partition 1\"}}\n";
-    let Ok(()) = out.write_all(opening) else {
+        "[{\"ph\":\"M\",\"name\":\"process_name\",\"pid\":1,\"args\":{\"name\":\"partition 1\"}}\n";
+    let Ok(()) = open(opening, out) else {
         return tell(Failure::Write, err);
     };
-    let exit = explain_with(alloc, &mut chart, script, out, err);
-    let closed = close(out);
-    match exit {
-        Exit::Done => end(chart.is_whole(), closed, err),
-        Exit::Script | Exit::Usage | Exit::Host => Exit::Host,
-    }
+    let told = tell_script(alloc, &mut chart, script, out);
+    close(with_notes(told, chart.is_whole()), "]\n", out, err)
 }
 
-// Writes the end of the array.
-fn close<W: Write>(out: &mut W) -> io::Result<()>
-    ensures { OnOk result (Appends (W.contents out.old) (W.contents out.new) closing_text) }
+// Returns the result of a run. `is_whole` says whether there was memory for all notes.
+fn with_notes(told: Result<(), Failure>, is_whole: bool) -> Result<(), Failure>
+    ensures ok { IsOk result → IsOk told }
+    ensures err { IfErr result (λ failure. (told ≡ Err failure)
+        ⊎ (IsOk told × (failure ≡ Failure.Memory))) }
 {
-    out.write_all(b"]\n")?;
-    out.flush()
-}
-
-// Returns the exit of a whole run. `is_whole` says whether there was memory for all of the array.
-fn end<E: Write>(is_whole: bool, closed: io::Result<()>, err: &mut E) -> Exit
-    ensures closed { result ≡ Exit.Done → IsOk closed }
-    ensures no_script { result ≢ Exit.Script }
-    ensures no_usage { result ≢ Exit.Usage }
-{
-    match closed {
-        Ok(()) if is_whole => Exit::Done,
-        Ok(()) => tell(Failure::Memory, err),
-        Err(_) => tell(Failure::Write, err),
+    match told {
+        Ok(()) if !is_whole => Err(Failure::Memory),
+        told => told,
     }
 }

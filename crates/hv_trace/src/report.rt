@@ -1,10 +1,11 @@
 // Reporting a script as a page, from its text to an exit status.
-ghost use Rattle.std.specs.Prelude.{◌≡◌, ◌≢◌, true, IfNone, IfSome, IsOk, OnOk};
-ghost use Rattle.std.specs.Io.KnownBytes.{Appends};
+ghost use Rattle.std.specs.Prelude.{◌≡◌, ◌≢◌, ◌⊎◌, true, IfNone, IfSome};
 ghost use Rattle.hv_check.specs.Legal.{IsLegalOf};
 ghost use Rattle.hv_explain.specs.Followed.{HasFollowedText};
+ghost use Rattle.hv_explain.specs.Part.{FollowsPartOf, HasPutPart, TellsPartOf};
 ghost use Rattle.hv_explain.specs.Written.{HasExplainedText};
 ghost use Rattle.hv_run.specs.Failure.{CanRun};
+ghost use Rattle.hv_trace.specs.Framed.{IsFramed};
 ghost use Rattle.hv_trace.specs.Report.{HasPage, reports};
 ghost use Rattle.hv_trace.specs.declared.report.page.TheConstants.{HEAD, TAIL};
 
@@ -12,14 +13,14 @@ mod page;
 mod reporter;
 
 use crate::boots::try_boot;
+use crate::frame::{close, open};
 use crate::lines::Lines;
 use crate::report::page::{HEAD, TAIL};
 use crate::report::reporter::Reporter;
 use hv_check::check_text;
-use hv_explain::{explain_with, follow_with};
+use hv_explain::{tell_audit, tell_script};
 use hv_run::{Exit, Failure, tell};
 use std::alloc::Global;
-use std::io;
 use std::io::Write;
 
 /// Runs a script, and writes a page about its events on `out`: one file of HTML, which needs no network.
@@ -27,7 +28,7 @@ use std::io::Write;
 /// Without an audit the events are those of the script's lines, one after another, as `explain_text` of
 /// `hv_explain` runs them. With an audit they are its events, as `follow_text` of that crate takes them. If
 /// not everything runs, this function writes what those two write, and nothing of a page. If the host refuses
-/// an event, the page has the events before it.
+/// an event, the page has the events before it. After a failed write, `out` has a first part of a page.
 pub fn report_text<W: Write, E: Write>(
     alloc: Global,
     script: &[u8],
@@ -40,6 +41,13 @@ pub fn report_text<W: Write, E: Write>(
         (W.contents out.new)) }
     ensures audit { IfSome audit.entry (λ audit. result ≡ Exit.Done
         → HasPage (HasFollowedText reports script.now audit.now) (W.contents out.old) (W.contents out.new)) }
+    ensures failed_script { IfNone audit.entry (result ≢ Exit.Done → HasPutPart
+        (IsFramed HEAD.now TAIL.now (TellsPartOf reports script.now)) (W.contents out.old)
+        (W.contents out.new)) }
+    ensures failed_audit { IfSome audit.entry (λ audit. result ≢ Exit.Done
+        → IsLegalOf true true script.now audit.now
+        → HasPutPart (IsFramed HEAD.now TAIL.now (FollowsPartOf reports script.now audit.now))
+        (W.contents out.old) (W.contents out.new)) }
     ensures legal { IfSome audit.entry (λ audit. result ≡ Exit.Done
         → IsLegalOf true true script.now audit.now) }
     ensures illegal { IfSome audit.entry (λ audit. result ≡ Exit.Script
@@ -67,6 +75,9 @@ fn report_script<W: Write, E: Write>(
 ) -> Exit
     ensures page { result ≡ Exit.Done → HasPage (HasExplainedText reports script.now) (W.contents out.old)
         (W.contents out.new) }
+    ensures failed { result ≢ Exit.Done → HasPutPart
+        (IsFramed HEAD.now TAIL.now (TellsPartOf reports script.now)) (W.contents out.old)
+        (W.contents out.new) }
     ensures silent { result ≡ Exit.Script → out.new ≡ out.old }
     ensures faulty { result ≡ Exit.Script → CanRun script.now → ⊥ }
     ensures no_usage { result ≢ Exit.Usage }
@@ -85,17 +96,19 @@ fn write_script<W: Write, E: Write>(
     out: &mut W,
     err: &mut E,
 ) -> Exit
+    requires { CanRun script.now }
     ensures page { result ≡ Exit.Done → HasPage (HasExplainedText reports script.now) (W.contents out.old)
         (W.contents out.new) }
-    ensures no_script { result ≢ Exit.Script }
-    ensures no_usage { result ≢ Exit.Usage }
+    ensures failed { result ≢ Exit.Done → HasPutPart
+        (IsFramed HEAD.now TAIL.now (TellsPartOf reports script.now)) (W.contents out.old)
+        (W.contents out.new) }
+    ensures status { (result ≡ Exit.Done) ⊎ (result ≡ Exit.Host) }
 {
-    let Ok(()) = out.write_all(HEAD.as_bytes()) else {
+    let Ok(()) = open(HEAD, out) else {
         return tell(Failure::Write, err);
     };
-    let exit = explain_with(alloc, &mut reporter, script, out, err);
-    let closed = close(out);
-    end(exit, closed, err)
+    let told = tell_script(alloc, &mut reporter, script, out);
+    close(told, TAIL, out, err)
 }
 
 // Writes the page of an audit's events, in its order, or the verdict on an audit that isn't legal.
@@ -109,6 +122,9 @@ fn report_audit<W: Write, E: Write>(
 ) -> Exit
     ensures page { result ≡ Exit.Done → HasPage (HasFollowedText reports script.now audit.now)
         (W.contents out.old)
+        (W.contents out.new) }
+    ensures failed { result ≢ Exit.Done → IsLegalOf true true script.now audit.now → HasPutPart
+        (IsFramed HEAD.now TAIL.now (FollowsPartOf reports script.now audit.now)) (W.contents out.old)
         (W.contents out.new) }
     ensures legal { result ≡ Exit.Done → IsLegalOf true true script.now audit.now }
     ensures illegal { result ≡ Exit.Script → IsLegalOf true true script.now audit.now → ⊥ }
@@ -131,18 +147,20 @@ fn write_audit<W: Write, E: Write>(
     out: &mut W,
     err: &mut E,
 ) -> Exit
+    requires { IsLegalOf true true script.now audit.now }
     ensures page { result ≡ Exit.Done → HasPage (HasFollowedText reports script.now audit.now)
         (W.contents out.old)
         (W.contents out.new) }
-    ensures no_script { result ≢ Exit.Script }
-    ensures no_usage { result ≢ Exit.Usage }
+    ensures failed { result ≢ Exit.Done → HasPutPart
+        (IsFramed HEAD.now TAIL.now (FollowsPartOf reports script.now audit.now)) (W.contents out.old)
+        (W.contents out.new) }
+    ensures status { (result ≡ Exit.Done) ⊎ (result ≡ Exit.Host) }
 {
-    let Ok(()) = out.write_all(HEAD.as_bytes()) else {
+    let Ok(()) = open(HEAD, out) else {
         return tell(Failure::Write, err);
     };
-    let exit = follow_with(alloc, &mut reporter, script, audit, out, err);
-    let closed = close(out);
-    end(exit, closed, err)
+    let told = tell_audit(alloc, &mut reporter, script, audit, out);
+    close(told, TAIL, out, err)
 }
 
 // Prints the verdict on an audit that isn't legal.
@@ -154,26 +172,4 @@ fn show_verdict<W: Write, E: Write>(verdict: &[u8], out: &mut W, err: &mut E) ->
         return tell(Failure::Write, err);
     }
     Exit::Script
-}
-
-// Writes the end of a page.
-fn close<W: Write>(out: &mut W) -> io::Result<()>
-    ensures { OnOk result (Appends (W.contents out.old) (W.contents out.new) TAIL.now) }
-{
-    out.write_all(TAIL.as_bytes())?;
-    out.flush()
-}
-
-// Returns the exit of a page whose rows ended with this one.
-fn end<E: Write>(exit: Exit, closed: io::Result<()>, err: &mut E) -> Exit
-    ensures done { result ≡ Exit.Done → exit ≡ Exit.Done }
-    ensures closed { result ≡ Exit.Done → IsOk closed }
-    ensures no_script { result ≢ Exit.Script }
-    ensures no_usage { result ≢ Exit.Usage }
-{
-    match (exit, closed) {
-        (Exit::Done, Ok(())) => Exit::Done,
-        (Exit::Done, Err(_)) => tell(Failure::Write, err),
-        (Exit::Script | Exit::Usage | Exit::Host, _) => Exit::Host,
-    }
 }

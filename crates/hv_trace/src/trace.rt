@@ -2,6 +2,7 @@
 ghost use Rattle.std.specs.Prelude.{◌≡◌, ◌≢◌, true, IfNone, IfSome};
 ghost use Rattle.hv_check.specs.Legal.{IsLegalOf};
 ghost use Rattle.hv_explain.specs.Followed.{HasFollowedText};
+ghost use Rattle.hv_explain.specs.Part.{FollowsPartOf, HasPutPart, TellsPartOf};
 ghost use Rattle.hv_explain.specs.Written.{HasExplainedText};
 ghost use Rattle.hv_run.specs.Failure.{CanRun};
 ghost use Rattle.hv_trace.specs.Trace.{traces};
@@ -30,6 +31,12 @@ pub fn trace_text<W: Write, E: Write>(
         (W.contents out.new)) }
     ensures audit { IfSome audit.entry (λ audit. result ≡ Exit.Done
         → HasFollowedText traces script.now audit.now (W.contents out.old) (W.contents out.new)) }
+    ensures failed_script { IfNone audit.entry (result ≢ Exit.Done
+        → HasPutPart (TellsPartOf traces script.now) (W.contents out.old) (W.contents out.new)) }
+    ensures failed_audit { IfSome audit.entry (λ audit. result ≢ Exit.Done
+        → IsLegalOf true true script.now audit.now
+        → HasPutPart (FollowsPartOf traces script.now audit.now) (W.contents out.old)
+        (W.contents out.new)) }
     ensures legal { IfSome audit.entry (λ audit. result ≡ Exit.Done
         → IsLegalOf true true script.now audit.now) }
     ensures illegal { IfSome audit.entry (λ audit. result ≡ Exit.Script
