@@ -11,7 +11,7 @@ _hvpm() {
         check) words="--prefix --no-rules --json --names --help" ;;
         explain | report) words="--names --help" ;;
         trace) words="--perfetto --names --help" ;;
-        serve) words="--json --help" ;;
+        serve) words="--json --names --help" ;;
         draw) words="--sequence --to --from --only --names --help" ;;
         asm) words="--help" ;;
         help) words="run check explain trace report serve draw asm help" ;;

@@ -102,10 +102,12 @@ class Session:
     """A run of `PROGRAM serve --json`. `close` or the end of `with` ends it.
 
     An answer that doesn't come within `timeout` seconds raises TimeoutError, and ends the program. Without
-    `program` it is the one that HVPM names, or else that of a wheel, of a checkout or of PATH."""
+    `program` it is the one that HVPM names, or else that of a wheel, of a checkout or of PATH. With `names`
+    the lines of `events` may be by names, as in `hvpm serve --names`."""
 
-    def __init__(self, program: Optional[str] = None, timeout: float = 60.0) -> None:
+    def __init__(self, program: Optional[str] = None, timeout: float = 60.0, names: bool = False) -> None:
         words = [find_program() if program is None else program, "serve", "--json"]
+        words += ["--names"] if names else []
         self._process = subprocess.Popen(words, stdin=subprocess.PIPE, stdout=subprocess.PIPE)
         assert self._process.stdin is not None and self._process.stdout is not None  # Popen made them.
         self._in, self._out = self._process.stdin, self._process.stdout
@@ -244,6 +246,10 @@ class Session:
     def table(self) -> str:
         """Returns the table of partitions."""
         return str(self._ask("table")["table"])
+
+    def help(self) -> str:
+        """Returns what a session takes, in lines."""
+        return str(self._ask("help")["help"])
 
     def explain(self) -> Optional[str]:
         """Returns the last event in words, as `hvpm explain` prints it. None before the first."""

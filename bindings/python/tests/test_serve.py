@@ -106,6 +106,16 @@ class Sessions(unittest.TestCase):
         self.assertIn("partition 1 parent - Active", session.table())
         self.assertEqual(session.close(), 13)
 
+    def test_lines_may_be_by_names(self):
+        with Session(PROGRAM, names=True) as session:
+            session.boot(mask=MASK, pages=32, pool=12, vps=1)
+            self.assertEqual(session.events("1.0 HvCreatePartition Flags=0")[0].value, 2)
+            with self.assertRaisesRegex(serve.Fault, "unknown word 'HvPostMesage'; did you mean HvPostMessage"):
+                session.events("1.0 HvPostMesage")
+            self.assertIn("ID.VP CALL FIELD=VALUE", session.help())
+        with self.assertRaisesRegex(serve.Fault, "unknown word$"):
+            self.boot().events("1.0 HvCreatePartition Flags=0")
+
     def test_calls_have_fields(self):
         session = self.boot()
         self.assertEqual(session.call(ROOT, "HvCreatePartition", Flags=0)[0].value, 2)

@@ -3,7 +3,7 @@
 //! [`asm_text`] prints the script that a text means: one line for each line. A line by names has the TLFS's
 //! names of calls, registers and fields, and becomes the line of numbers that the script's language has. All
 //! other lines stay as they are. `docs/PROGRAM.md` describes the form. [`script_by_names`] gives that script
-//! to a command.
+//! to a command. [`push_line`] reads one line, and [`Hint`] tells of its fault.
 #![tactic(auto)]
 
 ghost use Rattle.std.specs.Prelude.{◌≡◌, ℕ, Bool, List, Ok};
@@ -33,6 +33,8 @@ mod values;
 pub use asm::{asm_text, script_by_names};
 pub use fault::{AsmError, AsmFault};
 pub use field::{Field, Part, parts};
+pub use hint::Hint;
+pub use line::push_line;
 pub use text::assemble;
 
 /// The frame of a line by names decodes to the call with the fields that the line gives.

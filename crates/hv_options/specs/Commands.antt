@@ -13,7 +13,7 @@ use Rattle.hv_options.specs.declared.usage.Command.TheVariants as command
 abbrev pub audit_rule : Bool → Rule
 audit_rule required = record (new_rule (codes "AUDIT")) { required = required }
 
--- a command that takes a script, with the flag `--names`
+-- a command that takes a script or its lines, with the flag `--names`
 abbrev pub with_names : App → App
 with_names line = with_rule line (flag_rule (codes "names"))
 
@@ -43,9 +43,9 @@ trace_line = with_names (with_rule (with_rule (with_rule (new_app (codes "trace"
 abbrev pub report_line : App
 report_line = with_names (with_rule (with_rule (new_app (codes "report")) script_rule) (audit_rule false))
 
--- `serve --json`
+-- `serve --json --names`
 abbrev pub serve_line : App
-serve_line = with_rule (new_app (codes "serve")) (flag_rule (codes "json"))
+serve_line = with_names (with_rule (new_app (codes "serve")) (flag_rule (codes "json")))
 
 -- an option `--name VALUE`
 abbrev pub value_rule : Text → Rule
@@ -90,7 +90,7 @@ pub data Asked : Type 0 where
   Explain : (script : Text) (audit : Option Text) (names : Bool) → Asked
   Trace : (script : Text) (audit : Option Text) (perfetto names : Bool) → Asked
   Report : (script : Text) (audit : Option Text) (names : Bool) → Asked
-  Serve : (json : Bool) → Asked
+  Serve : (json names : Bool) → Asked
   Draw : (script : Text) (audit : Option Text) (sequence : Bool) (to from only : Option Text) (names : Bool)
       → Asked
   Asm : (file : Text) → Asked
@@ -105,7 +105,7 @@ asked_for (command.Explain script audit names) = Explain script.now (option_map 
 asked_for (command.Trace script audit perfetto names) = Trace script.now
     (option_map (λ name. name.now) audit) perfetto names
 asked_for (command.Report script audit names) = Report script.now (option_map (λ name. name.now) audit) names
-asked_for (command.Serve json) = Serve json
+asked_for (command.Serve json names) = Serve json names
 asked_for (command.Draw script audit sequence to from only names) = Draw script.now
     (option_map (λ name. name.now) audit) sequence (option_map (λ number. number.now) to)
     (option_map (λ number. number.now) from) (option_map (λ word. word.now) only) names
@@ -140,7 +140,7 @@ report_by rows = option_map (λ script. Report script (audit_in rows) (is_given 
     (script_in rows)
 
 abbrev pub serve_by : List Row → Asked
-serve_by rows = Serve (is_given (codes "json") rows)
+serve_by rows = Serve (is_given (codes "json") rows) (is_given (codes "names") rows)
 
 abbrev pub draw_by : List Row → Option Asked
 draw_by rows = option_map (λ script. Draw script (audit_in rows) (is_given (codes "sequence") rows)

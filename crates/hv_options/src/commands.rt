@@ -163,7 +163,12 @@ fn serve_command<'a>(alloc: Global) -> Result<Line<'a>, AllocError>
 {
     Line::new(alloc, "serve")
         .about("Answers each line of standard input at once")
-        .arg(flag(alloc, "json", "Answer each line with one line of JSON"))
+        .arg(flag(alloc, "json", "Answer each line with one line of JSON"))?
+        .arg(flag(
+            alloc,
+            "names",
+            "Take lines that may be by names, as asm does",
+        ))
 }
 
 fn draw_command<'a>(alloc: Global) -> Result<Line<'a>, AllocError>
@@ -250,7 +255,7 @@ fn only_option<'a>(alloc: Global) -> Arg<'a>
         alloc,
         "only",
         "ID",
-        "Chart only what partition ID, or its processor ID.VP, does or gets",
+        "Draw only what partition ID, or its processor ID.VP, has, does or gets",
     )
 }
 
@@ -387,6 +392,7 @@ fn read_serve<'a>(own: &ArgMatches<'a>) -> Command<'a>
 {
     Command::Serve {
         json: is_given(own, "json"),
+        names: is_given(own, "names"),
     }
 }
 

@@ -63,10 +63,12 @@ pub enum Command<'a> {
         audit: Option<&'a str>,
         names: bool,
     },
-    /// `serve [--json]`: answers each line of standard input at once.
+    /// `serve [--json] [--names]`: answers each line of standard input at once.
     Serve {
         /// Whether each answer is a line of JSON.
         json: bool,
+        /// Whether the lines may be by names.
+        names: bool,
     },
     /// `draw SCRIPT [AUDIT] [--sequence] [--to N] [--from N] [--only ID] [--names]`: prints a state of a
     /// script as a graph, or its run as a chart, in the order of an audit if one is named.
@@ -79,7 +81,7 @@ pub enum Command<'a> {
         to: Option<&'a str>,
         /// The number of the first event of a chart, as it was written.
         from: Option<&'a str>,
-        /// The partition or the processor that a chart shows alone, as it was written.
+        /// The partition or the processor that is drawn alone, as it was written.
         only: Option<&'a str>,
         names: bool,
     },

@@ -27,7 +27,7 @@ use Rattle.hv_serve.specs.Outcome.{outcome_of_boot}
 use Rattle.hv_serve.specs.Session.{Becomes, HasCome, HasDone, HasStopped, Served, read_of}
 use Rattle.hv_serve.specs.declared.bench.Bench.{Bench}
 use Rattle.hv_serve.specs.declared.outcome.Outcome.{Outcome}
-use Rattle.hv_serve.specs.declared.outcome.Outcome.TheVariants.{Done, Table, Peek, Explain, Fault, Boot, Host}
+use Rattle.hv_serve.specs.declared.outcome.Outcome.TheVariants.{Done, Table, Peek, Explain, Help, Fault, Named, Boot, Host}
 use Rattle.hv_shared.specs.ByCaller.{receipts_by}
 use Rattle.hv_threads.specs.Acted.{AreUpTo, HasActed, WasStopped}
 use Rattle.hv_threads.specs.Perform.{IsWhole}
@@ -54,7 +54,9 @@ asked_becomes before says Done asks = absurd asks
 asked_becomes before says Table asks = (asks, refl)
 asked_becomes before says (Peek peek) asks = (asks, refl)
 asked_becomes before says Explain asks = (asks, refl)
+asked_becomes before says Help asks = (asks, refl)
 asked_becomes before says (Fault kind) asks = absurd asks
+asked_becomes before says (Named fault) asks = absurd asks
 asked_becomes before says (Boot why) asks = absurd asks
 asked_becomes before says (Host why) asks = absurd asks
 
@@ -268,7 +270,9 @@ module _ (old new : Bench) (served : Served) (words : List (List ℕ)) (by : Cal
   performed most enough Table acted = absurd acted
   performed most enough (Peek peek) acted = absurd acted
   performed most enough Explain acted = absurd acted
+  performed most enough Help acted = absurd acted
   performed most enough (Fault kind) acted = absurd acted
+  performed most enough (Named fault) acted = absurd acted
   performed most enough (Boot why) acted = absurd acted
   performed most enough (Host why) stop =
       let from : WasStopped by what most why served.kept new.kept = subst (λ (k : Kept Global). WasStopped by what most why k new.kept) is.kept stop in

@@ -6,6 +6,8 @@ use Rattle.std.specs.List.{join_with_byte}
 use Rattle.std.proofs.lemmas.Bool.{false≢true}
 use Rattle.std.proofs.lemmas.Bool.Decides.{nat_tests}
 use Rattle.std.proofs.lemmas.List.Elements.{All-cons, All-head, All-nil, All-tail}
+use Rattle.hv_asm.specs.Line.{line_of}
+use Rattle.hv_asm.specs.declared.fault.AsmFault.{AsmFault}
 use Rattle.hv_history.specs.Kept.{IsRun}
 use Rattle.hv_history.specs.declared.entry.Entry.{Entry}
 use Rattle.hv_phases.proofs.PhasedHistories.{in_order_phased}
@@ -24,13 +26,14 @@ use Rattle.hv_text.specs.Audit.{audit_text, entries_text}
 use Rattle.hv_serve.proofs.Lines.{IsOne, split_joined}
 use Rattle.hv_phases.proofs.PhasedHistories.{order-append, order_run}
 use Rattle.hv_serve.proofs.Texts.{audited, drop_front, entries-append}
-use Rattle.hv_serve.specs.Law.{IsServed, done_in, is_done, script_in, told_in}
-use Rattle.hv_serve.specs.Meant.{Asks, Explains, Meant, Peeks, Reads, meaning, meant, request_by, request_line}
+use Rattle.hv_serve.specs.Law.{IsServed, done_in, is_done, plain_in, script_in, told_in}
+use Rattle.hv_serve.proofs.Named.{plain_one}
+use Rattle.hv_serve.specs.Meant.{Asks, Explains, Helps, Meant, Peeks, Reads, if_meant, meaning, meant, meant_as, meant_by, plain_of, request_by, request_line}
 use Rattle.hv_serve.specs.Peek.{peek_of}
-use Rattle.hv_serve.specs.Session.{AreTurns, Becomes, HasCome, HasDone, IsBooted, IsTurn, Served, Turn, answer_of, answers_in, end_text, history_of, kept_of, lines_in, new_text, read_of}
+use Rattle.hv_serve.specs.Session.{AreTurns, Becomes, HasCome, HasDone, IsBooted, IsTurn, Served, Turn, answer_of, answers_in, end_text, history_of, kept_of, new_text, read_of}
 use Rattle.hv_serve.specs.declared.form.Form.TheVariants.{Text}
 use Rattle.hv_serve.specs.declared.outcome.Outcome.{Outcome}
-use Rattle.hv_serve.specs.declared.outcome.Outcome.TheVariants.{Done, Table, Peek, Explain, Fault, Boot, Host}
+use Rattle.hv_serve.specs.declared.outcome.Outcome.TheVariants.{Done, Table, Peek, Explain, Help, Fault, Named, Boot, Host}
 use Rattle.hv_serve.specs.declared.peek.Peek.{Peek as Looking}
 use Rattle.hv_serve.specs.declared.request.Request.{Request}
 use Rattle.hv_serve.specs.declared.request.Request.TheVariants as request
@@ -39,9 +42,17 @@ use Rattle.hv_serve.specs.declared.request.Request.TheVariants as request
 same_reads : {X : Type 0} (a b : Option (SoFar Global)) → ◌≡◌ {A = Result Meant X} (Ok (Reads a)) (Ok (Reads b)) → a ≡ b
 same_reads a b same = cc
 
+no_help : (t : Bool) (after : Option (SoFar Global)) → cond t (Ok Helps) (Err Count) ≢ Ok (Reads after)
+no_help true after = λ same. cc
+no_help false after = λ same. cc
+
 -- and what asks for something isn't
 no_request : (request : Request) (before after : Option (SoFar Global)) (words : List (List ℕ)) → request_line request before words ≢ Ok (Reads after)
-no_request request None after words = λ same. cc
+no_request request.Table None after words = λ same. cc
+no_request request.Peek None after words = λ same. cc
+no_request request.Explain None after words = λ same. cc
+no_request request.Help None after words = no_help (length words == 1) after
+no_request request.Help (Some so_far) after words = no_help (length words == 1) after
 no_request request.Table (Some so_far) after words = at (length words == 1)
   where
     at : (t : Bool) → cond t (Ok Asks) (Err Count) ≢ Ok (Reads after)
@@ -74,6 +85,17 @@ by_length false request before after line same = by_request request before after
 pub reads_line : (before after : Option (SoFar Global)) (line : List ℕ) → meant before line ≡ Ok (Reads after) → read_line before line ≡ Ok after
 unfolding meant
 reads_line before after line same = by_length (nat_lt MOST_BYTES (length line)) (request_by line) before after line same
+
+-- as is the line that a line by names means
+reads_named : (t : Bool) (before after : Option (SoFar Global)) (line : List ℕ) (plain : Result (List ℕ) AsmFault) → cond t (Err Long) (meant_as before plain) ≡ Ok (Reads after)
+    → read_line before (if_meant line plain) ≡ Ok after
+reads_named true before after line plain same = absurd (cc)
+reads_named false before after line (Ok plain) same = reads_line before after plain same
+reads_named false before after line (Err fault) same = absurd (cc)
+
+reads_plain : (names : Bool) (before after : Option (SoFar Global)) (line : List ℕ) → meant_by names before line ≡ Ok (Reads after) → read_line before (plain_of names line) ≡ Ok after
+reads_plain false before after line same = reads_line before after line same
+reads_plain true before after line same = reads_named (nat_lt MOST_BYTES (length line)) before after line (line_of line) same
 
 -- the machine is a run, if there is one
 abbrev pub IsRunOf : Option Served → Type 0
@@ -164,7 +186,9 @@ is_that Done is = refl
 is_that Table is = absurd (false≢true is)
 is_that (Peek peek) is = absurd (false≢true is)
 is_that Explain is = absurd (false≢true is)
+is_that Help is = absurd (false≢true is)
 is_that (Fault kind) is = absurd (false≢true is)
+is_that (Named fault) is = absurd (false≢true is)
 is_that (Boot why) is = absurd (false≢true is)
 is_that (Host why) is = absurd (false≢true is)
 
@@ -174,20 +198,22 @@ unchanged before mid says Done becomes served is = absurd (false≢true (sym is)
 unchanged before mid says Table becomes served is = becomes.1
 unchanged before mid says (Peek peek) becomes served is = becomes.1
 unchanged before mid says Explain becomes served is = becomes.1
+unchanged before mid says Help becomes served is = becomes.1
 unchanged before mid says (Fault kind) becomes served is = becomes.1
+unchanged before mid says (Named fault) becomes served is = becomes.1
 unchanged before mid says (Boot why) becomes served is = becomes.1
 unchanged before mid says (Host why) becomes served is = absurd served
 
 -- the lines of these turns, one after the other, are read as a script's, and did what they ask for
-record Comes (before : Option Served) (done : List Turn) (after : Option Served) : Type 0 where
-  read : (number : ℕ) → read_lines number (read_of before) (lines_in done) ≡ Ok (read_of after)
+record Comes (names : Bool) (before : Option Served) (done : List Turn) (after : Option Served) : Type 0 where
+  read : (number : ℕ) → read_lines number (read_of before) (plain_in names done) ≡ Ok (read_of after)
   reached : Reached before after
   own : List (Entry Global)
   grown : history_of (kept_of after) ≡ history_of (kept_of before) ++ own
   told : answers_in done ≡ entries_text (length (history_of (kept_of before)) + 1) own
 
-comes-nothing : (now : Option Served) → IsRunOf now → Comes now [] now
-comes-nothing now run = record {
+comes-nothing : (names : Bool) (now : Option Served) → IsRunOf now → Comes names now [] now
+comes-nothing names now run = record {
   read = λ n. refl;
   reached = reached-nothing now run;
   own = [];
@@ -209,18 +235,18 @@ answer_is number before mid turn own answer done grown =
     answer ∙ ap (λ (o : Outcome). answer_of Text number k o (kept_of mid) turn.objects turn.words) done ∙ append-nil (new_text k (kept_of mid))
     ∙ ap (entries_text (k + 1)) (ap (drop k) grown ∙ drop_front (history_of (kept_of before)) own)
 
-comes-then : (number : ℕ) (before mid after : Option Served) (turn : Turn) (rest : List Turn) → IsTurn Text number before turn mid → turn.outcome ≡ Done → Comes mid rest after
-    → Comes before (turn ∷ rest) after
-comes-then number before mid after turn rest is done more =
-    let becomes : Becomes before (meant (read_of before) turn.line) Done mid = subst (λ (o : Outcome). Becomes before (meant (read_of before) turn.line) o mid) done
+comes-then : (names : Bool) (number : ℕ) (before mid after : Option Served) (turn : Turn) (rest : List Turn) → IsTurn Text names number before turn mid → turn.outcome ≡ Done
+    → Comes names mid rest after → Comes names before (turn ∷ rest) after
+comes-then names number before mid after turn rest is done more =
+    let becomes : Becomes before (meant_by names (read_of before) turn.line) Done mid = subst (λ (o : Outcome). Becomes before (meant_by names (read_of before) turn.line) o mid) done
     is.becomes in
     let grown = grown_by before mid becomes.1 in
     let first : turn.answer ≡ entries_text (length (history_of (kept_of before)) + 1) grown.0 = answer_is number before mid turn grown.0 is.answer done grown.1 in
     let at : length (history_of (kept_of mid)) + 1 ≡ (length (history_of (kept_of before)) + 1) + length grown.0 = omega (arith, ap length grown.1, length-append (history_of (kept_of before)) grown.0)
     in
     record {
-      read = λ n. ap (λ (r : Result (Option (SoFar Global)) FaultKind). at_line n r >>= (λ after. read_lines (n + 1) after (lines_in rest)))
-          (reads_line (read_of before) (read_of mid) turn.line becomes.0)
+      read = λ n. ap (λ (r : Result (Option (SoFar Global)) FaultKind). at_line n r >>= (λ after. read_lines (n + 1) after (plain_in names rest)))
+          (reads_plain names (read_of before) (read_of mid) turn.line becomes.0)
           ∙ more.read (n + 1);
       reached = come-then before mid after becomes.1 more.reached;
       own = grown.0 ++ more.own;
@@ -233,33 +259,32 @@ comes-then number before mid after turn rest is done more =
 abbrev WasServed : Turn → Type 0
 WasServed turn = IsServed turn.outcome
 
-comes : (number : ℕ) (before : Option Served) (turns : List Turn) (after : Option Served) → IsRunOf before → AreTurns Text number before turns after → All WasServed turns
-    → Comes before (done_in turns)
-    after
-comes number before [] after run none all = subst (Comes before []) (sym none) (comes-nothing before run)
-comes number before (turn ∷ turns) after run some all =
-    choose (is_done turn.outcome) refl (λ ran. comes (number + 1) some.0 turns after ran some.2 (All-tail WasServed turn turns all))
+comes : (names : Bool) (number : ℕ) (before : Option Served) (turns : List Turn) (after : Option Served) → IsRunOf before → AreTurns Text names number before turns after → All WasServed turns
+    → Comes names before (done_in turns) after
+comes names number before [] after run none all = subst (Comes names before []) (sym none) (comes-nothing names before run)
+comes names number before (turn ∷ turns) after run some all =
+    choose (is_done turn.outcome) refl (λ ran. comes names (number + 1) some.0 turns after ran some.2 (All-tail WasServed turn turns all))
   where
-    choose : (t : Bool) → is_done turn.outcome ≡ t → (IsRunOf some.0 → Comes some.0 (done_in turns) after) → Comes before (done_in (turn ∷ turns)) after
+    choose : (t : Bool) → is_done turn.outcome ≡ t → (IsRunOf some.0 → Comes names some.0 (done_in turns) after) → Comes names before (done_in (turn ∷ turns)) after
     choose true same later =
         let done = is_that turn.outcome same in
-        let becomes : Becomes before (meant (read_of before) turn.line) Done some.0 = subst (λ (o : Outcome). Becomes before (meant (read_of before) turn.line) o some.0)
+        let becomes : Becomes before (meant_by names (read_of before) turn.line) Done some.0 = subst (λ (o : Outcome). Becomes before (meant_by names (read_of before) turn.line) o some.0)
         done some.1.becomes in
-        subst (λ (d : List Turn). Comes before d after) (sym (shape true turn (done_in turns) same))
-        (comes-then number before some.0 after turn (done_in turns) some.1 done (later (run_of_come before some.0 becomes.1)))
+        subst (λ (d : List Turn). Comes names before d after) (sym (shape true turn (done_in turns) same))
+        (comes-then names number before some.0 after turn (done_in turns) some.1 done (later (run_of_come before some.0 becomes.1)))
     choose false same later =
-        let still : some.0 ≡ before = unchanged before some.0 (meant (read_of before) turn.line) turn.outcome some.1.becomes (All-head WasServed turn turns all) same in
-        subst (λ (d : List Turn). Comes before d after) (sym (shape false turn (done_in turns) same))
-        (subst (λ (b : Option Served). Comes b (done_in turns) after) still (later (subst IsRunOf (sym still) run)))
+        let still : some.0 ≡ before = unchanged before some.0 (meant_by names (read_of before) turn.line) turn.outcome some.1.becomes (All-head WasServed turn turns all) same in
+        subst (λ (d : List Turn). Comes names before d after) (sym (shape false turn (done_in turns) same))
+        (subst (λ (b : Option Served). Comes names b (done_in turns) after) still (later (subst IsRunOf (sym still) run)))
 
-all_if : (t : Bool) (turn : Turn) (rest : List Turn) → IsOne turn.line → All IsOne (lines_in rest) → All IsOne (lines_in (if t then turn ∷ rest else rest))
-all_if true turn rest one ones = All-cons IsOne turn.line (lines_in rest) one ones
-all_if false turn rest one ones = ones
+all_if : (names t : Bool) (turn : Turn) (rest : List Turn) → IsOne turn.line → All IsOne (plain_in names rest) → All IsOne (plain_in names (if t then turn ∷ rest else rest))
+all_if names true turn rest one ones = All-cons IsOne (plain_of names turn.line) (plain_in names rest) (plain_one names turn.line one) ones
+all_if names false turn rest one ones = ones
 
-ones : (number : ℕ) (before : Option Served) (turns : List Turn) (after : Option Served) → AreTurns Text number before turns after → All IsOne (lines_in (done_in turns))
-ones number before [] after none = All-nil IsOne
-ones number before (turn ∷ turns) after some =
-    all_if (is_done turn.outcome) turn (done_in turns) some.1.one (ones (number + 1) some.0 turns after some.2)
+ones : (names : Bool) (number : ℕ) (before : Option Served) (turns : List Turn) (after : Option Served) → AreTurns Text names number before turns after → All IsOne (plain_in names (done_in turns))
+ones names number before [] after none = All-nil IsOne
+ones names number before (turn ∷ turns) after some =
+    all_if names (is_done turn.outcome) turn (done_in turns) some.1.one (ones names (number + 1) some.0 turns after some.2)
 
 -- a script that boots has lines, which are cut out of it
 cut_out : (lines : List (List ℕ)) (read : SoFar Global) → All IsOne lines → read_lines 1 None lines ≡ Ok (Some read) → lines_of (join_with_byte 10 lines) ≡ lines
@@ -278,19 +303,19 @@ scripted text lines read most cut same =
     ∙ ap (λ (r : Result (Option (SoFar Global)) ScriptFault). r >>= (λ (r : Option (SoFar Global)). said_by r)) same
 
 -- the lines that were done are a script, and what they were answered is its audit
-pub serial : (turns : List Turn) (now : Served) → AreTurns Text 1 None turns (Some now) → All WasServed turns → length (script_in turns) ≤ MOST_BYTES
-    → (old new : Option (List ℕ)) → Appends old new (told_in turns ++ end_text (length now.kept.history)) → HasWritten (script_in turns) true false old new
-serial turns now are served most old new told =
-    let all = comes 1 None turns (Some now) tt are served in
-    let lines = lines_in (done_in turns) in
+pub serial : (names : Bool) (turns : List Turn) (now : Served) → AreTurns Text names 1 None turns (Some now) → All WasServed turns → length (script_in names turns) ≤ MOST_BYTES
+    → (old new : Option (List ℕ)) → Appends old new (told_in turns ++ end_text (length now.kept.history)) → HasWritten (script_in names turns) true false old new
+serial names turns now are served most old new told =
+    let all = comes names 1 None turns (Some now) tt are served in
+    let lines = plain_in names (done_in turns) in
     let read = all.read 1 in
     let is = all.reached in
-    let cut = cut_out lines now.read (ones 1 None turns (Some now) are) read in
+    let cut = cut_out lines now.read (ones names 1 None turns (Some now) are) read in
     let text : told_in turns ++ end_text (length now.kept.history) ≡ audit_text now.kept.history ++ [] =
     ap (λ (t : List ℕ). t ++ end_text (length now.kept.history)) (all.told ∙ ap (entries_text 1) (sym all.grown)) ∙ audited now.kept.history ∙ sym (append-nil (audit_text now.kept.history)) in
     record {
       said = record { config = now.read.boot.config; limit = now.read.boot.limit; lines = now.read.lines };
-      is = scripted (script_in turns) lines now.read most cut read;
+      is = scripted (script_in names turns) lines now.read most cut read;
       kept = now.kept;
       run = is.run;
       config = is.config;
@@ -314,7 +339,9 @@ served_if Done is = tt
 served_if Table is = tt
 served_if (Peek peek) is = tt
 served_if Explain is = tt
+served_if Help is = tt
 served_if (Fault kind) is = tt
+served_if (Named fault) is = tt
 served_if (Boot why) is = tt
 served_if (Host why) is = absurd (false≢true is)
 
@@ -324,12 +351,13 @@ all_served (turn ∷ turns) all =
     All-cons WasServed turn turns (served_if turn.outcome (All-head WasDone turn turns all)) (all_served turns (All-tail WasDone turn turns all))
 
 -- all that was written is, where all lines were done
-pub whole : (text : List ℕ) (turns : List Turn) (now : Served) → AreTurns Text 1 None turns (Some now) → All WasDone turns → length text ≤ MOST_BYTES → text ≡ join_with_byte 10 (lines_in turns)
+pub whole : (names : Bool) (text : List ℕ) (turns : List Turn) (now : Served) → AreTurns Text names 1 None turns (Some now) → All WasDone turns → length text ≤ MOST_BYTES
+    → text ≡ join_with_byte 10 (plain_in names turns)
     → (old new : Option (List ℕ)) → Appends old new (answers_in turns ++ end_text (length now.kept.history)) → HasWritten text true false old new
-whole text turns now are all most is old new told =
+whole names text turns now are all most is old new told =
     let same = all_done turns all in
-    let script : script_in turns ≡ text = ap (λ (d : List Turn). join_with_byte 10 (lines_in d)) same ∙ sym is in
+    let script : script_in names turns ≡ text = ap (λ (d : List Turn). join_with_byte 10 (plain_in names d)) same ∙ sym is in
     let answers : answers_in turns ++ end_text (length now.kept.history) ≡ told_in turns ++ end_text (length now.kept.history) =
     ap (λ (d : List Turn). answers_in d ++ end_text (length now.kept.history)) (sym same) in
     subst (λ (t : List ℕ). HasWritten t true false old new) script
-    (serial turns now are (all_served turns all) (subst (λ (t : List ℕ). length t ≤ MOST_BYTES) (sym script) most) old new (subst (Appends old new) answers told))
+    (serial names turns now are (all_served turns all) (subst (λ (t : List ℕ). length t ≤ MOST_BYTES) (sym script) most) old new (subst (Appends old new) answers told))

@@ -3,6 +3,8 @@ pub mod LineOutcomes
 pub mod BenchSteps
 pub mod Law
 pub mod Lines
+pub mod Meaning
+pub mod Named
 pub mod Objects
 pub mod ReadLines
 pub mod LineWords

@@ -8,7 +8,7 @@ use Rattle.hv_serve.specs.Outcome.{outcome_by}
 use Rattle.hv_serve.specs.Session.{Becomes, Served, kept_of}
 use Rattle.hv_serve.specs.declared.bench.Bench.{Bench}
 use Rattle.hv_serve.specs.declared.outcome.Outcome.{Outcome}
-use Rattle.hv_serve.specs.declared.outcome.Outcome.TheVariants.{Done, Table, Peek, Explain, Fault, Boot, Host}
+use Rattle.hv_serve.specs.declared.outcome.Outcome.TheVariants.{Done, Table, Peek, Explain, Help, Fault, Named, Boot, Host}
 
 -- a fault is what becomes of its line
 fault_becomes : (before : Option Served) (says : Result Meant FaultKind) (kind : FaultKind) → (kind ≢ Memory → says ≡ Err kind) → Becomes before says (outcome_by kind) before
@@ -37,7 +37,9 @@ request_keeps before after says Done asks becomes = absurd asks
 request_keeps before after says Table asks becomes = becomes.1
 request_keeps before after says (Peek peek) asks becomes = becomes.1
 request_keeps before after says Explain asks becomes = becomes.1
+request_keeps before after says Help asks becomes = absurd asks
 request_keeps before after says (Fault kind) asks becomes = absurd asks
+request_keeps before after says (Named fault) asks becomes = becomes.1
 request_keeps before after says (Boot why) asks becomes = absurd asks
 request_keeps before after says (Host why) asks becomes = absurd asks
 

@@ -14,35 +14,36 @@ use Rattle.hv_serve.specs.Json.{IsOneLine, all_escaped, elements, escaped, event
 use Rattle.hv_serve.specs.Outcome.{why_text}
 use Rattle.hv_serve.specs.Session.{AreTurns, Served, Turn, history_of, kept_of, shown_of}
 use Rattle.hv_serve.specs.declared.form.Form.TheVariants.{Json}
+use Rattle.hv_serve.specs.declared.help.TheConstants.{HELP}
 use Rattle.hv_serve.specs.declared.outcome.Outcome.{Outcome}
-use Rattle.hv_serve.specs.declared.outcome.Outcome.TheVariants.{Done, Table, Peek, Explain, Fault, Boot, Host}
+use Rattle.hv_serve.specs.declared.outcome.Outcome.TheVariants.{Done, Table, Peek, Explain, Help, Fault, Named, Boot, Host}
 
-abbrev in_line : ℕ → Bool
+abbrev pub in_line : ℕ → Bool
 in_line byte = not (byte == 10)
 
 -- none of the bytes is a line feed
-abbrev Fits : List ℕ → Type 0
+abbrev pub Fits : List ℕ → Type 0
 Fits text = list_all in_line text ≡ true
 
-both : (a b : Bool) → a ≡ true → b ≡ true → (a && b) ≡ true
+pub both : (a b : Bool) → a ≡ true → b ≡ true → (a && b) ≡ true
 both true b first second = second
 both false b first second = absurd (false≢true first)
 
-first_of : (a b : Bool) → (a && b) ≡ true → a ≡ true
+pub first_of : (a b : Bool) → (a && b) ≡ true → a ≡ true
 first_of true b is = refl
 first_of false b is = is
 
-second_of : (a b : Bool) → (a && b) ≡ true → b ≡ true
+pub second_of : (a b : Bool) → (a && b) ≡ true → b ≡ true
 second_of true b is = is
 second_of false b is = absurd (false≢true is)
 
-join : (a b : List ℕ) → Fits a → Fits b → Fits (a ++ b)
+pub join : (a b : List ℕ) → Fits a → Fits b → Fits (a ++ b)
 join a b first second = list_all-append in_line a b ∙ both (list_all in_line a) (list_all in_line b) first second
 
 apart : (byte : ℕ) → in_line byte ≡ true → byte ≢ 10
 apart byte is = λ same. let no : in_line byte ≡ false = ap in_line same in false≢true (sym no ∙ is)
 
-all_apart : (text : List ℕ) → Fits text → All (λ byte. byte ≢ 10) text
+pub all_apart : (text : List ℕ) → Fits text → All (λ byte. byte ≢ 10) text
 all_apart [] fits = All-nil (λ byte. byte ≢ 10)
 all_apart (byte ∷ text) fits =
     All-cons (λ byte. byte ≢ 10) byte text (apart byte (first_of (in_line byte) (list_all in_line text) fits)) (all_apart text (second_of (in_line byte) (list_all in_line text) fits))
@@ -56,16 +57,20 @@ chosen : (t : Bool) (a b : List ℕ) → Fits a → Fits b → Fits (cond t a b)
 chosen true a b first second = first
 chosen false a b first second = second
 
-digits_fit : (k n : ℕ) (acc : List ℕ) → Fits acc → Fits (digits_onto k 10 false n acc)
-digits_fit zero n acc fits = fits
-digits_fit (suc k) n acc fits =
-    let glyph : ℕ = digit_glyph false (n % 10) in
-    let more : Fits (glyph ∷ acc) = both (in_line glyph) (list_all in_line acc) (glyph_fits (nat_lt (n % 10) 10) (n % 10)) fits in
-    chosen (n / 10 == 0) (glyph ∷ acc) (digits_onto k 10 false (n / 10) (glyph ∷ acc)) more (digits_fit k (n / 10) (glyph ∷ acc) more)
+digits_fit : (k base n : ℕ) (acc : List ℕ) → Fits acc → Fits (digits_onto k base false n acc)
+digits_fit zero base n acc fits = fits
+digits_fit (suc k) base n acc fits =
+    let glyph : ℕ = digit_glyph false (n % base) in
+    let more : Fits (glyph ∷ acc) = both (in_line glyph) (list_all in_line acc) (glyph_fits (nat_lt (n % base) 10) (n % base)) fits in
+    chosen (n / base == 0) (glyph ∷ acc) (digits_onto k base false (n / base) (glyph ∷ acc)) more (digits_fit k base (n / base) (glyph ∷ acc) more)
 
-decimal_fits : (n : ℕ) → Fits (decimal n)
+pub decimal_fits : (n : ℕ) → Fits (decimal n)
 unfolding digits
-decimal_fits n = digits_fit 64 n [] refl
+decimal_fits n = digits_fit 64 10 n [] refl
+
+pub hex_fits : (n : ℕ) → Fits (digits 16 false n)
+unfolding digits
+hex_fits n = digits_fit 64 16 n [] refl
 
 -- strings
 escaped_fits : (byte : ℕ) → Fits (escaped byte)
@@ -94,25 +99,29 @@ events_fit : (number : ℕ) (es : List (Entry Global)) → Fits (events_value nu
 events_fit number [] = refl
 events_fit number (e ∷ es) = join (string_of (entry_text number e)) (more_events (number + 1) es) (string_fits (entry_text number e)) (more_fit (number + 1) es)
 
-fault_fits : (outcome : Outcome) → Fits (fault_value outcome)
-fault_fits Done = refl
-fault_fits Table = refl
-fault_fits (Peek peek) = refl
-fault_fits Explain = refl
-fault_fits (Fault kind) = string_fits (why_text (Fault kind))
-fault_fits (Boot why) = string_fits (why_text (Boot why))
-fault_fits (Host why) = string_fits (why_text (Host why))
-
 value_fits : (shown : Option (List ℕ)) → Fits (text_value shown)
 value_fits None = refl
 value_fits (Some text) = string_fits text
+
+fault_fits : (outcome : Outcome) (shown : Option (List ℕ)) → Fits (fault_value outcome shown)
+fault_fits Done shown = refl
+fault_fits Table shown = refl
+fault_fits (Peek peek) shown = refl
+fault_fits Explain shown = refl
+fault_fits Help shown = refl
+fault_fits (Fault kind) shown = string_fits (why_text (Fault kind))
+fault_fits (Named fault) shown = value_fits shown
+fault_fits (Boot why) shown = string_fits (why_text (Boot why))
+fault_fits (Host why) shown = string_fits (why_text (Host why))
 
 member_fits : (outcome : Outcome) (shown : Option (List ℕ)) → Fits (shown_member outcome shown)
 member_fits Done shown = refl
 member_fits Table shown = join (codes ",\"table\":") (text_value shown) refl (value_fits shown)
 member_fits (Peek peek) shown = join (codes ",\"peek\":") (text_value shown) refl (value_fits shown)
 member_fits Explain shown = join (codes ",\"explain\":") (text_value shown) refl (value_fits shown)
+member_fits Help shown = join (codes ",\"help\":") (string_of HELP.now) refl (string_fits HELP.now)
 member_fits (Fault kind) shown = refl
+member_fits (Named fault) shown = refl
 member_fits (Boot why) shown = refl
 member_fits (Host why) shown = refl
 
@@ -134,13 +143,13 @@ object_one number events objects outcome shown fits =
     let t : List ℕ = codes "],\"trace\":[" ++ elements objects in
     let o : List ℕ = c ++ t in
     let d : List ℕ = o ++ codes "],\"fault\":" in
-    let e : List ℕ = d ++ fault_value outcome in
+    let e : List ℕ = d ++ fault_value outcome shown in
     let f : List ℕ = e ++ shown_member outcome shown in
     let a_fits : Fits a = join (codes "{\"line\":") (decimal number) refl (decimal_fits number) in
     let c_fits : Fits c = join b events (join a (codes ",\"events\":[") a_fits refl) fits in
     let t_fits : Fits t = join (codes "],\"trace\":[") (elements objects) refl (separated_fit (take (length objects - 1) objects)) in
     let o_fits : Fits o = join c t c_fits t_fits in
-    let e_fits : Fits e = join d (fault_value outcome) (join o (codes "],\"fault\":") o_fits refl) (fault_fits outcome) in
+    let e_fits : Fits e = join d (fault_value outcome shown) (join o (codes "],\"fault\":") o_fits refl) (fault_fits outcome shown) in
     let f_fits : Fits f = join e (shown_member outcome shown) e_fits (member_fits outcome shown) in
     record {
       line = f ++ codes "}";
@@ -149,12 +158,13 @@ object_one number events objects outcome shown fits =
     }
 
 -- each answer in JSON is one line
-pub answers_one : (number : ℕ) (before : Option Served) (turns : List Turn) (now : Option Served) → AreTurns Json number before turns now → All (λ turn. IsOneLine turn.answer) turns
-answers_one number before [] now none = All-nil (λ turn. IsOneLine turn.answer)
-answers_one number before (turn ∷ turns) now some =
+pub answers_one : (names : Bool) (number : ℕ) (before : Option Served) (turns : List Turn) (now : Option Served) → AreTurns Json names number before turns now
+    → All (λ turn. IsOneLine turn.answer) turns
+answers_one names number before [] now none = All-nil (λ turn. IsOneLine turn.answer)
+answers_one names number before (turn ∷ turns) now some =
     let after = kept_of some.0 in
     let count = length (history_of (kept_of before)) in
     let events : List (Entry Global) = drop count (history_of after) in
     All-cons (λ turn. IsOneLine turn.answer) turn turns
     (subst IsOneLine (sym some.1.answer) (object_one number (events_value (count + 1) events) turn.objects turn.outcome (shown_of turn.outcome after turn.words) (events_fit (count + 1) events)))
-    (answers_one (number + 1) some.0 turns now some.2)
+    (answers_one names (number + 1) some.0 turns now some.2)

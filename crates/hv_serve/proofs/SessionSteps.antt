@@ -21,16 +21,17 @@ use Rattle.hv_serve.proofs.LineOutcomes.{same_kept}
 use Rattle.hv_run.proofs.Parts.{part_after, part_before, part_whole}
 use Rattle.hv_serve.proofs.WrittenParts.{three}
 
-turns-push : (form : Form) (number : ℕ) (before : Option Served) (turns : List Turn) (mid : Option Served) (turn : Turn) (after : Option Served) → AreTurns form number before turns mid
-    → IsTurn form (number + length turns)
+turns-push : (form : Form) (names : Bool) (number : ℕ) (before : Option Served) (turns : List Turn) (mid : Option Served) (turn : Turn) (after : Option Served)
+    → AreTurns form names number before turns mid
+    → IsTurn form names (number + length turns)
     mid turn after
-    → AreTurns form number before (turns ++ turn ∷ []) after
-turns-push form number before [] mid turn after none is =
+    → AreTurns form names number before (turns ++ turn ∷ []) after
+turns-push form names number before [] mid turn after none is =
     let at : number + 0 ≡ number = omega arith in
-    (after, subst (λ (m : Option Served). IsTurn form number m turn after) none (subst (λ (n : ℕ). IsTurn form n mid turn after) at is), refl)
-turns-push form number before (t ∷ turns) mid turn after some is =
+    (after, subst (λ (m : Option Served). IsTurn form names number m turn after) none (subst (λ (n : ℕ). IsTurn form names n mid turn after) at is), refl)
+turns-push form names number before (t ∷ turns) mid turn after some is =
     let at : number + length (t ∷ turns) ≡ (number + 1) + length turns = omega arith in
-    (some.0, some.1, turns-push form (number + 1) some.0 turns mid turn after some.2 (subst (λ (n : ℕ). IsTurn form n mid turn after) at is))
+    (some.0, some.1, turns-push form names (number + 1) some.0 turns mid turn after some.2 (subst (λ (n : ℕ). IsTurn form names n mid turn after) at is))
 
 answers-push : (turns : List Turn) (turn : Turn) → answers_in (turns ++ turn ∷ []) ≡ answers_in turns ++ turn.answer
 answers-push [] turn = append-nil turn.answer
@@ -107,8 +108,8 @@ spoken Text line = refl
 spoken Json line = refl
 
 -- no line was read yet
-pub serving_none : (form : Form) (input old : Option (List ℕ)) → IsServing form 1 None input input old old
-serving_none form input old = record {
+pub serving_none : (form : Form) (names : Bool) (input old : Option (List ℕ)) → IsServing form names 1 None input input old old
+serving_none form names input old = record {
   turns = [];
   now = None;
   stands = tt;
@@ -119,8 +120,8 @@ serving_none form input old = record {
 }
 
 -- before the first line
-pub served_none : (form : Form) (exit : Exit) (input old new : Option (List ℕ)) → HasPart (greeting form) old new → HasServedPart form exit input old new
-served_none form exit input old new part = record {
+pub served_none : (form : Form) (names : Bool) (exit : Exit) (input old new : Option (List ℕ)) → HasPart (greeting form) old new → HasServedPart form names exit input old new
+served_none form names exit input old new part = record {
   turns = [];
   more = rest_of input ∷ [];
   now = None;
@@ -130,16 +131,16 @@ served_none form exit input old new part = record {
   told = subst (λ (text : List ℕ). HasPart text old new) (sym (append-nil (greeting form))) part;
 }
 
-module _ (form : Form) (number : ℕ) (before : Option Bench) (input mid old between : Option (List ℕ)) (is : IsServing form number before input mid old between) where
-  served_next : (turn : Turn) (after : Option Served) → IsTurn form number is.now turn after → AreTurns form 1 None (is.turns ++ turn ∷ []) after
+module _ (form : Form) (names : Bool) (number : ℕ) (before : Option Bench) (input mid old between : Option (List ℕ)) (is : IsServing form names number before input mid old between) where
+  served_next : (turn : Turn) (after : Option Served) → IsTurn form names number is.now turn after → AreTurns form names 1 None (is.turns ++ turn ∷ []) after
   served_next turn after next =
       let count = is.count in
       let at : number ≡ 1 + length is.turns = omega arith in
-      turns-push form 1 None is.turns is.now turn after is.served (subst (λ (n : ℕ). IsTurn form n is.now turn after) at next)
+      turns-push form names 1 None is.turns is.now turn after is.served (subst (λ (n : ℕ). IsTurn form names n is.now turn after) at next)
 
   module _ (rest new : Option (List ℕ)) (bench : Option Bench) where
     -- a line more, behind which another stands
-    pub serving_next : HasTurned form number is.now false bench mid rest between new → IsServing form (number + 1) bench input rest old new
+    pub serving_next : HasTurned form names number is.now false bench mid rest between new → IsServing form names (number + 1) bench input rest old new
     serving_next turned =
         let count = is.count in
         let turn = turned.turn in
@@ -155,8 +156,8 @@ module _ (form : Form) (number : ℕ) (before : Option Bench) (input mid old bet
         }
 
     -- the last line, and then the count
-    pub served_all : (start ended : Option (List ℕ)) → Appends start old (greeting form) → HasTurned form number is.now true bench mid rest between new
-        → Appends new ended (closing form (length (history_of (kept_in bench)))) → HasServed form input start ended
+    pub served_all : (start ended : Option (List ℕ)) → Appends start old (greeting form) → HasTurned form names number is.now true bench mid rest between new
+        → Appends new ended (closing form (length (history_of (kept_in bench)))) → HasServed form names input start ended
     served_all start ended greets turned end =
         let turn = turned.turn in
         let turns = is.turns ++ turn ∷ [] in
@@ -175,8 +176,8 @@ module _ (form : Form) (number : ℕ) (before : Option Bench) (input mid old bet
         }
 
     -- the last line, and then a part of the count
-    pub served_end : (exit : Exit) (start ended : Option (List ℕ)) → exit ≡ Host → Appends start old (greeting form) → HasTurned form number is.now true bench mid rest between new
-        → HasPart (closing form (length (history_of (kept_in bench)))) new ended → HasServedPart form exit input start ended
+    pub served_end : (exit : Exit) (start ended : Option (List ℕ)) → exit ≡ Host → Appends start old (greeting form) → HasTurned form names number is.now true bench mid rest between new
+        → HasPart (closing form (length (history_of (kept_in bench)))) new ended → HasServedPart form names exit input start ended
     served_end exit start ended host greets turned end =
         let turn = turned.turn in
         let turns = is.turns ++ turn ∷ [] in
@@ -198,7 +199,7 @@ module _ (form : Form) (number : ℕ) (before : Option Bench) (input mid old bet
         }
 
   -- no more was written, and more lines may follow
-  pub served_so_far : (exit : Exit) (start new : Option (List ℕ)) → Appends start old (greeting form) → Keeps between new → HasServedPart form exit input start new
+  pub served_so_far : (exit : Exit) (start new : Option (List ℕ)) → Appends start old (greeting form) → Keeps between new → HasServedPart form names exit input start new
   served_so_far exit start new greets same = record {
     turns = is.turns;
     more = rest_of mid ∷ [];
@@ -212,8 +213,8 @@ module _ (form : Form) (number : ℕ) (before : Option Bench) (input mid old bet
 
   -- a part of the answer to the next line, behind which another stands, or none
   served_cut : (exit : Exit) (start new : Option (List ℕ)) → exit ≡ Host → Appends start old (greeting form) → (turn : Turn) (after : Option Served)
-      → IsTurn form number is.now turn after → (last : Bool) (rest : Option (List ℕ))
-      → HasEnded last turn.line mid rest → HasPart (if is_silent form last turn.line then [] else turn.answer) between new → HasServedPart form exit input start new
+      → IsTurn form names number is.now turn after → (last : Bool) (rest : Option (List ℕ))
+      → HasEnded last turn.line mid rest → HasPart (if is_silent form last turn.line then [] else turn.answer) between new → HasServedPart form names exit input start new
   served_cut exit start new host greets turn after next false rest ended part =
       let answer : HasPart turn.answer between new = subst (λ (t : Bool). HasPart (if t then [] else turn.answer) between new) (spoken form turn.line) part in
       let told : HasPart (answers_in is.turns ++ turn.answer) old new = part_after (answers_in is.turns) turn.answer old between new is.told answer in
@@ -245,7 +246,7 @@ module _ (form : Form) (number : ℕ) (before : Option Bench) (input mid old bet
       }
 
   -- serving ended within the next line
-  pub served_failed : (failure : Failure) (start new : Option (List ℕ)) → Appends start old (greeting form) → HasFailed form number is.now failure mid between new
-      → HasServedPart form (exit_of failure) input start new
+  pub served_failed : (failure : Failure) (start new : Option (List ℕ)) → Appends start old (greeting form) → HasFailed form names number is.now failure mid between new
+      → HasServedPart form names (exit_of failure) input start new
   served_failed failure start new greets (inl same) = served_so_far (exit_of failure) start new greets same
   served_failed failure start new greets (inr (host, part)) = served_cut (exit_of failure) start new host greets part.turn part.after part.is part.last part.rest part.ended part.told

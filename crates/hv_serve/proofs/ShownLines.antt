@@ -8,7 +8,10 @@ use Rattle.hv_history.specs.declared.entry.Entry.{Entry}
 use Rattle.hv_serve.specs.Bench.{Shows}
 use Rattle.hv_serve.specs.Session.{shown_of}
 use Rattle.hv_serve.specs.declared.outcome.Outcome.{Outcome}
-use Rattle.hv_serve.specs.declared.outcome.Outcome.TheVariants.{Explain}
+use Rattle.hv_serve.specs.Outcome.{named_text}
+use Rattle.hv_serve.specs.declared.outcome.Outcome.TheVariants.{Explain, Named}
+use Rattle.hv_words.specs.Words.{IsPlain}
+use Rattle.hv_asm.specs.declared.fault.AsmFault.{AsmFault}
 
 -- what has no words
 pub shows_plainly : (outcome : Outcome) (now : Option (Kept Global)) (shown : Option (List ℕ)) → shown ≡ shown_of outcome now [] → Shows outcome now shown
@@ -38,3 +41,12 @@ pub explained : (kept : Kept Global) (start line text : List ℕ) → 0 < length
     → IfSome (last_of kept.history) (λ last. HasPut (IsExplanation (length kept.history) last.event.by) (Some start) (Some line))
     → ((own : List ℕ) → line ≡ own ++ codes "\n" → text ≡ own) → Shows Explain (Some kept) (Some text)
 explained kept start line text some none put ends = explained_as kept start line text (last_of kept.history) refl (some_last kept.history some) none put ends
+
+-- the text of a fault by names, and a word behind it
+pub named : (fault : AsmFault) (now : Option (Kept Global)) (start mid text hint : List ℕ) → start ≡ [] → mid ≡ start ++ named_text fault → text ≡ mid ++ hint → IsPlain hint
+    → Shows (Named fault) now (Some text)
+named fault now start mid text hint none first then plain = record {
+  words = hint;
+  plain = plain;
+  is = ap Some (then ∙ ap (λ (l : List ℕ). l ++ hint) (first ∙ ap (λ (l : List ℕ). l ++ named_text fault) none));
+}

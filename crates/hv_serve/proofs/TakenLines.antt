@@ -17,7 +17,7 @@ use Rattle.hv_serve.proofs.Lines.{IsOne}
 use Rattle.hv_serve.proofs.LineWords.{by_first, cut_says, line_shorter, line_whole, long_says}
 use Rattle.hv_serve.specs.Bench.{AsksFor, HasAnsweredPart, HasBecome, HasTaken, IsBench, IsToldAs, StandsFor, kept_in, reads, words_say}
 use Rattle.hv_serve.specs.Input.{AreKept, HasEnded, HasLine}
-use Rattle.hv_serve.specs.Meant.{Meant, meant, request_line, request_of}
+use Rattle.hv_serve.specs.Meant.{Meant, meant, meant_as, meant_by, request_line, request_of}
 use Rattle.hv_serve.specs.Session.{AreTraced, IsTurn, Served, Turn, answer_of, history_of, kept_of, read_of}
 use Rattle.hv_serve.specs.Turned.{HasTurned, HasTurnedPart, is_silent}
 use Rattle.hv_serve.specs.declared.bench.Bench.{Bench}
@@ -84,22 +84,22 @@ lost_line bench before bytes kept kind stands lost =
     (stands, λ apart. long_says (read_of before) bytes (lost.1 apart).1 ∙ ap Err (sym (lost.1 apart).0))
 
 -- the line of a number, read and done, and what is told of its answer, unless it has none
-pub record IsTurned (form : Form) (number : ℕ) (before : Option Served) (last : Bool) (bench : Option Bench) (input rest : Option (List ℕ)) (Told : List ℕ → Type 0) : Type 0 where
+pub record IsTurned (form : Form) (names : Bool) (number : ℕ) (before : Option Served) (last : Bool) (bench : Option Bench) (input rest : Option (List ℕ)) (Told : List ℕ → Type 0) : Type 0 where
   pub turn : Turn
   pub after : Option Served
   pub stands : StandsFor bench after
-  pub is : IsTurn form number before turn after
+  pub is : IsTurn form names number before turn after
   pub ended : HasEnded last turn.line input rest
   pub told : Told (if is_silent form last turn.line then [] else turn.answer)
 
-is_turned : (Told : List ℕ → Type 0) (form : Form) (number count : ℕ) (before : Option Served) (old new : Option Bench) (line : List ℕ) (end : LineEnd)
+is_turned : (Told : List ℕ → Type 0) (form : Form) (names : Bool) (number count : ℕ) (before : Option Served) (old new : Option Bench) (line : List ℕ) (end : LineEnd)
     (input rest : Option (List ℕ)) (outcome told : Outcome) (objects words : List ℕ) (silent : Bool)
-    → StandsFor old before → (came : HasLine line end input rest) → silent ≡ is_silent form end.last came.bytes → HasBecome before (meant (read_of before) came.bytes) outcome new
+    → StandsFor old before → (came : HasLine line end input rest) → silent ≡ is_silent form end.last came.bytes → HasBecome before (meant_by names (read_of before) came.bytes) outcome new
     → count ≡ length (history_of (kept_in old)) → IsToldAs outcome told → (form ≡ Json → AreTraced count (kept_in new) objects) → IsPlain words
     → Told (if silent then [] else answer_of form number count told (kept_in new) objects words)
-    → IsTurned form number before end.last new input rest Told
-is_turned Told form number count before old new line end input rest outcome told objects words silent stands came is has counted told_as traced plain went =
-    let become = told_becomes before (meant (read_of before) came.bytes) new outcome told has told_as in
+    → IsTurned form names number before end.last new input rest Told
+is_turned Told form names number count before old new line end input rest outcome told objects words silent stands came is has counted told_as traced plain went =
+    let become = told_becomes before (meant_by names (read_of before) came.bytes) new outcome told has told_as in
     let counts : count ≡ length (history_of (kept_of before)) = counted ∙ ap (λ k. length (history_of k)) (same_kept old before stands) in
     let now : List ℕ = answer_of form number (length (history_of (kept_of before))) told (kept_of become.after) objects words in
     let answer : answer_of form number count told (kept_in new) objects words ≡ now =
@@ -118,22 +118,24 @@ is_turned Told form number count before old new line end input rest outcome told
     }
 
 -- the line was answered
-pub turned : (form : Form) (number count : ℕ) (before : Option Served) (old new : Option Bench) (line : List ℕ) (end : LineEnd) (input rest from to : Option (List ℕ)) (outcome told : Outcome)
+pub turned : (form : Form) (names : Bool) (number count : ℕ) (before : Option Served) (old new : Option Bench) (line : List ℕ) (end : LineEnd)
+    (input rest from to : Option (List ℕ)) (outcome told : Outcome)
     (objects words : List ℕ) (silent : Bool)
-    → StandsFor old before → (came : HasLine line end input rest) → silent ≡ is_silent form end.last came.bytes → HasBecome before (meant (read_of before) came.bytes) outcome new
+    → StandsFor old before → (came : HasLine line end input rest) → silent ≡ is_silent form end.last came.bytes → HasBecome before (meant_by names (read_of before) came.bytes) outcome new
     → count ≡ length (history_of (kept_in old)) → IsToldAs outcome told → (form ≡ Json → AreTraced count (kept_in new) objects) → IsPlain words
     → Appends from to (if silent then [] else answer_of form number count told (kept_in new) objects words)
-    → HasTurned form number before end.last new input rest from to
-turned form number count before old new line end input rest from to outcome told objects words silent stands came is has counted told_as traced plain went =
-    let turn = is_turned (Appends from to) form number count before old new line end input rest outcome told objects words silent stands came is has counted told_as traced plain went in
+    → HasTurned form names number before end.last new input rest from to
+turned form names number count before old new line end input rest from to outcome told objects words silent stands came is has counted told_as traced plain went =
+    let turn = is_turned (Appends from to) form names number count before old new line end input rest outcome told objects words silent stands came is has counted told_as traced plain went in
     record { turn = turn.turn; after = turn.after; stands = turn.stands; is = turn.is; ended = turn.ended; told = turn.told }
 
 -- a first part of the answer went out
-pub turned_part : (form : Form) (number count : ℕ) (before : Option Served) (old new : Option Bench) (line : List ℕ) (end : LineEnd) (input rest from to : Option (List ℕ)) (outcome : Outcome)
-    → StandsFor old before → (came : HasLine line end input rest) → false ≡ is_silent form end.last came.bytes → HasBecome before (meant (read_of before) came.bytes) outcome new
+pub turned_part : (form : Form) (names : Bool) (number count : ℕ) (before : Option Served) (old new : Option Bench) (line : List ℕ) (end : LineEnd)
+    (input rest from to : Option (List ℕ)) (outcome : Outcome)
+    → StandsFor old before → (came : HasLine line end input rest) → false ≡ is_silent form end.last came.bytes → HasBecome before (meant_by names (read_of before) came.bytes) outcome new
     → count ≡ length (history_of (kept_in old)) → HasAnsweredPart form number count outcome (kept_in new) from to
-    → HasTurnedPart form number before input from to
-turned_part form number count before old new line end input rest from to outcome stands came is has counted part =
-    let turn = is_turned (λ (text : List ℕ). HasPart text from to) form number count before old new line end input rest outcome part.told part.objects part.words false stands came is has counted
+    → HasTurnedPart form names number before input from to
+turned_part form names number count before old new line end input rest from to outcome stands came is has counted part =
+    let turn = is_turned (λ (text : List ℕ). HasPart text from to) form names number count before old new line end input rest outcome part.told part.objects part.words false stands came is has counted
     part.told_as part.traced part.plain part.wrote in
     record { turn = turn.turn; after = turn.after; is = turn.is; last = end.last; rest = rest; ended = turn.ended; told = turn.told }

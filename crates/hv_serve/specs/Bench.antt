@@ -15,13 +15,15 @@ use Rattle.hv_script.specs.declared.fault.FaultKind.TheVariants.{Memory}
 use Rattle.hv_history.specs.declared.kept.HostRefused.TheVariants as host
 use Rattle.hv_threads.specs.Acted.{HasActed, WasStopped}
 use Rattle.hv_words.specs.Words.{IsPlain}
-use Rattle.hv_serve.specs.Meant.{Asks, Explains, Meant, Peeks, Reads, request_line, request_of}
+use Rattle.hv_serve.specs.Meant.{Asks, Explains, Helps, Meant, Peeks, Reads}
+use Rattle.hv_serve.specs.Meant.{request_line, request_of}
 use Rattle.hv_serve.specs.Session.{AreTraced, Becomes, Served, answer_of, shown_of}
 use Rattle.hv_serve.specs.declared.bench.Bench.{Bench}
 use Rattle.hv_serve.specs.declared.form.Form.{Form}
 use Rattle.hv_serve.specs.declared.form.Form.TheVariants.{Json}
 use Rattle.hv_serve.specs.declared.outcome.Outcome.{Outcome}
-use Rattle.hv_serve.specs.declared.outcome.Outcome.TheVariants.{Done, Table, Peek, Explain, Fault, Boot, Host}
+use Rattle.hv_serve.specs.declared.outcome.Outcome.TheVariants.{Done, Table, Peek, Explain, Help, Fault}
+use Rattle.hv_serve.specs.declared.outcome.Outcome.TheVariants.{Named, Boot, Host}
 use Rattle.hv_serve.specs.declared.request.Request.{Request}
 
 -- the machine, if there is one
@@ -76,7 +78,9 @@ IsOutcomeOf by what most old new Done = HasActed by what most old new
 IsOutcomeOf by what most old new Table = ⊥
 IsOutcomeOf by what most old new (Peek peek) = ⊥
 IsOutcomeOf by what most old new Explain = ⊥
+IsOutcomeOf by what most old new Help = ⊥
 IsOutcomeOf by what most old new (Fault kind) = ⊥
+IsOutcomeOf by what most old new (Named fault) = ⊥
 IsOutcomeOf by what most old new (Boot why) = ⊥
 IsOutcomeOf by what most old new (Host why) = WasStopped by what most why old new
 
@@ -86,21 +90,25 @@ AsksFor Done says = ⊥
 AsksFor Table says = says ≡ Ok Asks
 AsksFor (Peek peek) says = says ≡ Ok (Peeks peek)
 AsksFor Explain says = says ≡ Ok Explains
+AsksFor Help says = says ≡ Ok Helps
 AsksFor (Fault kind) says = ⊥
+AsksFor (Named fault) says = ⊥
 AsksFor (Boot why) says = ⊥
 AsksFor (Host why) says = ⊥
 
--- the line asks for something
+-- the answer to the line takes memory
 abbrev pub IsRequest : Outcome → Type 0
 IsRequest Done = ⊥
 IsRequest Table = Unit {0}
 IsRequest (Peek peek) = Unit {0}
 IsRequest Explain = Unit {0}
+IsRequest Help = ⊥
 IsRequest (Fault kind) = ⊥
+IsRequest (Named fault) = Unit {0}
 IsRequest (Boot why) = ⊥
 IsRequest (Host why) = ⊥
 
--- the outcome that is reported: the line's own, or out of memory for what it asks for
+-- the outcome that is reported: the line's own, or out of memory for its answer
 abbrev pub IsToldAs : Outcome → Outcome → Type 0
 IsToldAs outcome told = (told ≡ outcome) ⊎ (IsRequest outcome × (told ≡ Host host.Memory))
 

@@ -5,8 +5,10 @@ use Rattle.std.specs.Prelude.{Option, None, Some}
 use Rattle.hv_history.specs.declared.entry.Entry.{Entry}
 use Rattle.hv_text.specs.Audit.{entry_text}
 use Rattle.hv_serve.specs.Outcome.{why_text}
+use Rattle.hv_serve.specs.declared.help.TheConstants.{HELP}
 use Rattle.hv_serve.specs.declared.outcome.Outcome.{Outcome}
-use Rattle.hv_serve.specs.declared.outcome.Outcome.TheVariants.{Done, Table, Peek, Explain, Fault, Boot, Host}
+use Rattle.hv_serve.specs.declared.outcome.Outcome.TheVariants.{Done, Table, Peek, Explain, Help, Fault}
+use Rattle.hv_serve.specs.declared.outcome.Outcome.TheVariants.{Named, Boot, Host}
 
 -- a byte in a string: a line feed, a quotation mark and a backslash are escaped
 abbrev pub escaped : ℕ → List ℕ
@@ -34,20 +36,22 @@ events_value number [] = []
 events_value number (entry ∷ entries) =
     string_of (entry_text number entry) ++ more_events (number + 1) entries
 
--- why the line wasn't done, or null
-abbrev pub fault_value : Outcome → List ℕ
-fault_value Done = codes "null"
-fault_value Table = codes "null"
-fault_value (Peek peek) = codes "null"
-fault_value Explain = codes "null"
-fault_value (Fault kind) = string_of (why_text (Fault kind))
-fault_value (Boot why) = string_of (why_text (Boot why))
-fault_value (Host why) = string_of (why_text (Host why))
-
 -- a text as a string, or null if there is none
 abbrev pub text_value : Option (List ℕ) → List ℕ
 text_value None = codes "null"
 text_value (Some text) = string_of text
+
+-- why the line wasn't done, or null
+abbrev pub fault_value : Outcome → Option (List ℕ) → List ℕ
+fault_value Done shown = codes "null"
+fault_value Table shown = codes "null"
+fault_value (Peek peek) shown = codes "null"
+fault_value Explain shown = codes "null"
+fault_value Help shown = codes "null"
+fault_value (Fault kind) shown = string_of (why_text (Fault kind))
+fault_value (Named fault) shown = text_value shown
+fault_value (Boot why) shown = string_of (why_text (Boot why))
+fault_value (Host why) shown = string_of (why_text (Host why))
 
 -- the member for what the line asks for, if it asks for something
 abbrev pub shown_member : Outcome → Option (List ℕ) → List ℕ
@@ -55,7 +59,9 @@ shown_member Done shown = []
 shown_member Table shown = codes ",\"table\":" ++ text_value shown
 shown_member (Peek peek) shown = codes ",\"peek\":" ++ text_value shown
 shown_member Explain shown = codes ",\"explain\":" ++ text_value shown
+shown_member Help shown = codes ",\"help\":" ++ string_of HELP.now
 shown_member (Fault kind) shown = []
+shown_member (Named fault) shown = []
 shown_member (Boot why) shown = []
 shown_member (Host why) shown = []
 
@@ -73,7 +79,7 @@ unfoldable pub object_text : ℕ → List ℕ → List ℕ → Outcome → Optio
 object_text number events objects outcome shown =
     codes "{\"line\":" ++ decimal number ++ codes ",\"events\":[" ++ events
     ++ (codes "],\"trace\":[" ++ elements objects) ++ codes "],\"fault\":"
-    ++ fault_value outcome ++ shown_member outcome shown ++ codes "}\n"
+    ++ fault_value outcome shown ++ shown_member outcome shown ++ codes "}\n"
 
 -- the line before all answers
 abbrev pub greeting_text : List ℕ

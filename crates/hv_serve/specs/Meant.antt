@@ -1,7 +1,9 @@
 -- The meaning of a line of a session.
 use Rattle.std.specs.Prelude.{ℕ, ◌==◌, nat_lt, List, length, codes, if◌then◌else◌, Option}
-use Rattle.std.specs.Prelude.{Some, None, Result, Ok, Err}
+use Rattle.std.specs.Prelude.{Bool, true, false, Some, None, Result, Ok, Err}
 use Rattle.std.specs.declared.alloc.Global.{Global}
+use Rattle.hv_asm.specs.Line.{line_of}
+use Rattle.hv_asm.specs.declared.fault.AsmFault.{AsmFault}
 use Rattle.hv_script.specs.Line.{◌>>=◌}
 use Rattle.hv_script.specs.Script.{SoFar, read_line}
 use Rattle.hv_script.specs.Words.{begins_with, has_good_bytes, is_skipped, words_of}
@@ -23,13 +25,18 @@ pub data Meant : Type 0 where
   Peeks : Peek → Meant
   -- a request for the explanation of the last event
   Explains : Meant
+  -- a request for help
+  Helps : Meant
+  -- a line by names that has this fault
+  Misnames : AsmFault → Meant
 
 -- what a line asks for, by its first word
 abbrev pub request_of : List (List ℕ) → Option Request
 request_of words =
     if begins_with words (codes "table") then Some request.Table
     else (if begins_with words (codes "peek") then Some request.Peek
-    else (if begins_with words (codes "explain") then Some request.Explain else None))
+    else (if begins_with words (codes "explain") then Some request.Explain
+    else (if begins_with words (codes "help") then Some request.Help else None)))
 
 -- a line of one word
 abbrev pub alone : Meant → List (List ℕ) → Result Meant FaultKind
@@ -42,10 +49,18 @@ asked request.Peek words = do
   peek ← peek_of words
   Ok (Peeks peek)
 asked request.Explain words = alone Explains words
+asked request.Help words = alone Helps words
 
--- it asks for something once a machine is booted
+-- it is about a machine
+abbrev pub needs_boot : Request → Bool
+needs_boot request.Table = true
+needs_boot request.Peek = true
+needs_boot request.Explain = true
+needs_boot request.Help = false
+
+-- but for help, it asks for something once a machine is booted
 abbrev pub request_line : Request → Option (SoFar Global) → List (List ℕ) → Result Meant FaultKind
-request_line request None words = Err NoBoot
+request_line request None words = if needs_boot request then Err NoBoot else asked request words
 request_line request (Some so_far) words = asked request words
 
 -- what a line asks for. It isn't skipped, and has no bad byte
@@ -65,3 +80,23 @@ meaning None before line = do
 unfoldable pub meant : Option (SoFar Global) → List ℕ → Result Meant FaultKind
 meant before line =
     if nat_lt MOST_BYTES (length line) then Err Long else meaning (request_by line) before line
+
+-- the meaning of a line by names that means this line, or has this fault
+abbrev pub meant_as : Option (SoFar Global) → Result (List ℕ) AsmFault → Result Meant FaultKind
+meant_as before (Ok line) = meant before line
+meant_as before (Err fault) = Ok (Misnames fault)
+
+-- the meaning of a line, which may be by names: that of the line that it means
+abbrev pub meant_by : Bool → Option (SoFar Global) → List ℕ → Result Meant FaultKind
+meant_by false before line = meant before line
+meant_by true before line =
+    if nat_lt MOST_BYTES (length line) then Err Long else meant_as before (line_of line)
+
+-- the line that a line means, or itself if it has a fault
+abbrev pub if_meant : List ℕ → Result (List ℕ) AsmFault → List ℕ
+if_meant line (Ok plain) = plain
+if_meant line (Err fault) = line
+
+abbrev pub plain_of : Bool → List ℕ → List ℕ
+plain_of false line = line
+plain_of true line = if_meant line (line_of line)

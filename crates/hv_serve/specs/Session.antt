@@ -1,6 +1,7 @@
 -- A session: its lines, the outcome of each, and the answer to each.
 use Rattle.std.specs.Prelude.{ℕ, ◌≡◌, ◌≢◌, ◌⊎◌, ◌↔◌, ◌==◌, ◌+◌, ◌++◌, List, [], ◌∷◌, length, drop, map, codes}
-use Rattle.std.specs.Prelude.{decimal, All, IfSome, Option, Some, None, Result, Ok, Err, if◌then◌else◌}
+use Rattle.std.specs.Prelude.{decimal, All, Bool, IfSome, Option, Some, None, Result, Ok, Err}
+use Rattle.std.specs.Prelude.{if◌then◌else◌}
 use Rattle.std.specs.Prelude.{option_and_then, option_map, take, unwrap_or}
 use Rattle.std.specs.Io.KnownBytes.{Appends}
 use Rattle.std.specs.List.{join_with_byte}
@@ -30,13 +31,15 @@ use Rattle.hv_threads.specs.Perform.{IsStopped}
 use Rattle.hv_trace.specs.Trace.{traces}
 use Rattle.hv_words.specs.Words.{IsPlain}
 use Rattle.hv_serve.specs.Json.{end_object, events_value, greeting_text, object_text}
-use Rattle.hv_serve.specs.Meant.{Asks, Explains, Meant, Peeks, Reads, meant}
-use Rattle.hv_serve.specs.Outcome.{fault_text}
+use Rattle.hv_serve.specs.Meant.{Asks, Explains, Helps, Meant, Misnames, Peeks, Reads, meant_by}
+use Rattle.hv_serve.specs.Outcome.{fault_text, named_fault_text, named_text}
 use Rattle.hv_serve.specs.Peek.{seen_of}
 use Rattle.hv_serve.specs.declared.form.Form.{Form}
 use Rattle.hv_serve.specs.declared.form.Form.TheVariants.{Text, Json}
+use Rattle.hv_serve.specs.declared.help.TheConstants.{HELP}
 use Rattle.hv_serve.specs.declared.outcome.Outcome.{Outcome}
-use Rattle.hv_serve.specs.declared.outcome.Outcome.TheVariants.{Done, Table, Peek, Explain, Fault, Boot, Host}
+use Rattle.hv_serve.specs.declared.outcome.Outcome.TheVariants.{Done, Table, Peek, Explain, Help, Fault}
+use Rattle.hv_serve.specs.declared.outcome.Outcome.TheVariants.{Named, Boot, Host}
 
 -- the state of a session: what its lines said, and the machine with its history
 pub record Served : Type 0 where
@@ -115,15 +118,17 @@ pub record IsRefusedBoot (before : Option Served) (says : Result Meant FaultKind
     pub boots : says ≡ Ok (Reads (Some read))
     pub refused : IsBootRefusal read.boot.config why
 
--- the outcome of a line with this meaning: it is done; it asks for the table, a look or an explanation; it
--- has a fault, or its boot is refused; or the host refuses it. Only a line that is done, or a processor's
--- line that the host stops, changes anything. Running out of memory may refuse any line
+-- the outcome of a line with this meaning: it is done; it asks for the table, a look, an explanation or help;
+-- it has a fault, by names or not, or its boot is refused; or the host refuses it. Only a line that is done,
+-- or a processor's line that the host stops, changes anything. Running out of memory may refuse any line
 abbrev pub Becomes : Option Served → Result Meant FaultKind → Outcome → Option Served → Type 0
 Becomes before says Done after = (says ≡ Ok (Reads (read_of after))) × HasCome before after
 Becomes before says Table after = (says ≡ Ok Asks) × (after ≡ before)
 Becomes before says (Peek peek) after = (says ≡ Ok (Peeks peek)) × (after ≡ before)
 Becomes before says Explain after = (says ≡ Ok Explains) × (after ≡ before)
+Becomes before says Help after = (says ≡ Ok Helps) × (after ≡ before)
 Becomes before says (Fault kind) after = (says ≡ Err kind) × (after ≡ before)
+Becomes before says (Named fault) after = (says ≡ Ok (Misnames fault)) × (after ≡ before)
 Becomes before says (Boot why) after = IsRefusedBoot before says why × (after ≡ before)
 Becomes before says (Host why) after = ((why ≡ host.Memory) × (after ≡ before)) ⊎ IsStoppedLine before says
     why after
@@ -145,28 +150,30 @@ abbrev pub explained_of : List (Entry Global) → List ℕ → Option (List ℕ)
 explained_of entries words = option_map (λ last. head_text (length entries) last.event.by ++ words)
     (last_of entries)
 
--- what a line with this outcome shows of the machine: the table, the bytes of a look, two digits for each, or
--- an explanation with these words
-abbrev pub shown_in : Outcome → Kept Global → List ℕ → Option (List ℕ)
-shown_in Done kept words = None
-shown_in Table kept words = Some (table_of (Some kept))
-shown_in (Peek peek) kept words = option_map encode_lower (seen_of (state_of kept) peek)
-shown_in Explain kept words = explained_of kept.history words
-shown_in (Fault kind) kept words = None
-shown_in (Boot why) kept words = None
-shown_in (Host why) kept words = None
-
+-- what a line with this outcome shows: the table, the bytes of a look, two digits for each, an explanation
+-- with these words, or a fault by names with these words behind it
 abbrev pub shown_of : Outcome → Option (Kept Global) → List ℕ → Option (List ℕ)
-shown_of outcome now words = option_and_then (λ kept. shown_in outcome kept words) now
+shown_of Done now words = None
+shown_of Table now words = option_map (λ kept. table_of (Some kept)) now
+shown_of (Peek peek) now words =
+    option_and_then (λ kept. option_map encode_lower (seen_of (state_of kept) peek)) now
+shown_of Explain now words = option_and_then (λ kept. explained_of kept.history words) now
+shown_of Help now words = None
+shown_of (Fault kind) now words = None
+shown_of (Named fault) now words = Some (named_text fault ++ words)
+shown_of (Boot why) now words = None
+shown_of (Host why) now words = None
 
 -- what follows the audit's lines in the answer to the line with this number: the table, a line of what else
--- it shows, or why it wasn't done
+-- it shows, the help, or why it wasn't done
 abbrev pub told_of : ℕ → Outcome → Option (List ℕ) → List ℕ
 told_of number Done shown = []
 told_of number Table shown = unwrap_or shown []
 told_of number (Peek peek) shown = unwrap_or shown (codes "none") ++ codes "\n"
 told_of number Explain shown = unwrap_or shown (codes "none") ++ codes "\n"
+told_of number Help shown = HELP.now
 told_of number (Fault kind) shown = fault_text number (Fault kind)
+told_of number (Named fault) shown = named_fault_text number (unwrap_or shown [])
 told_of number (Boot why) shown = fault_text number (Boot why)
 told_of number (Host why) shown = fault_text number (Host why)
 
@@ -178,7 +185,7 @@ answer_with Text number before outcome now objects shown = new_text before now +
 answer_with Json number before outcome now objects shown = object_text number
     (events_value (before + 1) (drop before (history_of now))) objects outcome shown
 
--- and if it explains an event, with these words
+-- and if it explains an event or a fault by names, with these words
 abbrev pub answer_of : Form → ℕ → ℕ → Outcome → Option (Kept Global) → List ℕ → List ℕ → List ℕ
 answer_of form number before outcome now objects words = answer_with form number before outcome now objects
     (shown_of outcome now words)
@@ -190,7 +197,7 @@ AreTraced before (Some kept) objects = AreTold traces kept.config (take before k
     (drop before kept.history) objects
 
 -- a line without its line feed, its outcome, the answer to it, and in the answer the objects of the line's
--- events and the words of an explanation
+-- events and the words of an explanation, or of a fault by names
 pub record Turn : Type 0 where
   pub line : List ℕ
   pub outcome : Outcome
@@ -198,22 +205,22 @@ pub record Turn : Type 0 where
   pub objects : List ℕ
   pub words : List ℕ
 
--- the line with this number, with its outcome and its answer. Explanations have plain words, and in JSON
--- events have objects
-pub record IsTurn (form : Form) (number : ℕ) (before : Option Served) (turn : Turn) (after : Option Served) :
-    Type 0 where
+-- the line with this number, which may be by names, with its outcome and its answer. Explanations have plain
+-- words, and in JSON events have objects
+pub record IsTurn (form : Form) (names : Bool) (number : ℕ) (before : Option Served) (turn : Turn)
+    (after : Option Served) : Type 0 where
   pub one : All (λ byte. byte ≢ 10) turn.line
-  pub becomes : Becomes before (meant (read_of before) turn.line) turn.outcome after
+  pub becomes : Becomes before (meant_by names (read_of before) turn.line) turn.outcome after
   pub plain : IsPlain turn.words
   pub traced : form ≡ Json → AreTraced (length (history_of (kept_of before))) (kept_of after) turn.objects
   pub answer : turn.answer ≡ answer_of form number (length (history_of (kept_of before))) turn.outcome
       (kept_of after) turn.objects turn.words
 
 -- the lines one after another. The first one has this number
-abbrev pub AreTurns : Form → ℕ → Option Served → List Turn → Option Served → Type 0
-AreTurns form number before [] after = after ≡ before
-AreTurns form number before (turn ∷ turns) after = (mid : Option Served) × IsTurn form number before turn mid
-    × AreTurns form (number + 1) mid turns after
+abbrev pub AreTurns : Form → Bool → ℕ → Option Served → List Turn → Option Served → Type 0
+AreTurns form names number before [] after = after ≡ before
+AreTurns form names number before (turn ∷ turns) after = (mid : Option Served)
+    × IsTurn form names number before turn mid × AreTurns form names (number + 1) mid turns after
 
 -- the lines, and their answers one after another
 abbrev pub lines_in : List Turn → List (List ℕ)
@@ -247,10 +254,10 @@ told_by Json turns count = greeting_text ++ answers_in (answered turns) ++ end_o
 
 -- the input consists of these lines, with a line feed between each two, and the writer gets what they are
 -- answered
-pub record HasServed (form : Form) (input old new : Option (List ℕ)) : Type 0 where
+pub record HasServed (form : Form) (names : Bool) (input old new : Option (List ℕ)) : Type 0 where
   pub turns : List Turn
   pub now : Option Served
-  pub served : AreTurns form 1 None turns now
+  pub served : AreTurns form names 1 None turns now
   pub whole : IfSome input (λ text. text ≡ join_with_byte 10 (lines_in turns))
   pub told : Appends old new (told_by form turns (length (history_of (kept_of now))))
 
@@ -262,11 +269,12 @@ told_before form turns (next ∷ more) count = greeting form ++ answers_in turns
 
 -- The input begins with these lines, with a line feed between each two, and the writer gets a first part of
 -- what they are answered. If the input can't be read to its end, more lines follow.
-pub record HasServedPart (form : Form) (exit : Exit) (input old new : Option (List ℕ)) : Type 0 where
+pub record HasServedPart (form : Form) (names : Bool) (exit : Exit) (input old new : Option (List ℕ)) :
+    Type 0 where
   pub turns : List Turn
   pub more : List (List ℕ)
   pub now : Option Served
-  pub served : AreTurns form 1 None turns now
+  pub served : AreTurns form names 1 None turns now
   pub begins : IfSome input (λ text. text ≡ join_with_byte 10 (lines_in turns ++ more))
   pub unread : exit ≡ Script → more ≢ []
   pub told : HasPart (told_before form turns more (length (history_of (kept_of now)))) old new

@@ -26,22 +26,22 @@ is_silent Json false line = false
 is_silent Json true line = length line == 0
 
 -- the line with this number was read and answered. It was the last one, or not
-pub record HasTurned (form : Form) (number : ℕ) (before : Option Served) (last : Bool) (bench : Option Bench)
-    (input rest old new : Option (List ℕ)) : Type 0 where
+pub record HasTurned (form : Form) (names : Bool) (number : ℕ) (before : Option Served) (last : Bool)
+    (bench : Option Bench) (input rest old new : Option (List ℕ)) : Type 0 where
   pub turn : Turn
   pub after : Option Served
   pub stands : StandsFor bench after
-  pub is : IsTurn form number before turn after
+  pub is : IsTurn form names number before turn after
   pub ended : HasEnded last turn.line input rest
   pub told : Appends old new (if is_silent form last turn.line then [] else turn.answer)
 
 -- the line with this number was read, and the writer got a first part of its answer. It was the last one, or
 -- not
-pub record HasTurnedPart (form : Form) (number : ℕ) (before : Option Served)
+pub record HasTurnedPart (form : Form) (names : Bool) (number : ℕ) (before : Option Served)
     (input old new : Option (List ℕ)) : Type 0 where
   pub turn : Turn
   pub after : Option Served
-  pub is : IsTurn form number before turn after
+  pub is : IsTurn form names number before turn after
   pub last : Bool
   pub rest : Option (List ℕ)
   pub ended : HasEnded last turn.line input rest
@@ -49,10 +49,10 @@ pub record HasTurnedPart (form : Form) (number : ℕ) (before : Option Served)
 
 -- serving ended within the line with this number: it can't be read, and the writer got nothing; or the host
 -- failed, and the writer got a first part of its answer
-abbrev pub HasFailed : Form → ℕ → Option Served → Failure → Option (List ℕ) → Option (List ℕ) → Option
+abbrev pub HasFailed : Form → Bool → ℕ → Option Served → Failure → Option (List ℕ) → Option (List ℕ) → Option
     (List ℕ) → Type 0
-HasFailed form number before failure input old new =
-    Keeps old new ⊎ ((exit_of failure ≡ Host) × HasTurnedPart form number before input old new)
+HasFailed form names number before failure input old new =
+    Keeps old new ⊎ ((exit_of failure ≡ Host) × HasTurnedPart form names number before input old new)
 
 -- the lines of the input, each with its line feed
 abbrev pub closed : List Turn → List ℕ
@@ -60,12 +60,12 @@ closed [] = []
 closed (turn ∷ turns) = turn.line ++ (10 ∷ []) ++ closed turns
 
 -- the lines before the one with this number were read and answered
-pub record IsServing (form : Form) (number : ℕ) (bench : Option Bench)
+pub record IsServing (form : Form) (names : Bool) (number : ℕ) (bench : Option Bench)
     (input rest old new : Option (List ℕ)) : Type 0 where
   pub turns : List Turn
   pub now : Option Served
   pub stands : StandsFor bench now
-  pub served : AreTurns form 1 None turns now
+  pub served : AreTurns form names 1 None turns now
   pub count : number ≡ length turns + 1
   pub taken : Consumes input rest (closed turns)
   pub told : Appends old new (answers_in turns)

@@ -9,7 +9,7 @@ ghost use Rattle.hv_run.specs.Failure.{exit_of};
 ghost use Rattle.hv_run.specs.Written.{HasPart};
 ghost use Rattle.hv_text.specs.Audit.{entries_text, entry_text};
 ghost use Rattle.hv_serve.specs.Bench.{HasAnswered, HasAnsweredPart, kept_in};
-ghost use Rattle.hv_serve.specs.Outcome.{fault_text};
+ghost use Rattle.hv_serve.specs.Outcome.{fault_text, named_fault_text};
 ghost use Rattle.hv_serve.specs.Session.{AreTraced, answer_with, end_text, greeting, history_of, new_text};
 ghost use Rattle.hv_serve.specs.Session.{told_of};
 ghost use Rattle.hv_serve.specs.Traced.{IsTracedIn};
@@ -18,6 +18,7 @@ ghost use Rattle.hv_serve.specs.declared.form.Form.TheVariants.{Json};
 
 use crate::bench::Bench;
 use crate::form::Form;
+use crate::help::HELP;
 use crate::json::put_object;
 use crate::outcome::Outcome;
 use crate::shown::take_shown;
@@ -28,9 +29,9 @@ use itoa::Buffer;
 use std::alloc::Global;
 use std::io::Write;
 
-// Builds the answer to the line with this number, before which this number of events had happened, and then
-// writes it and flushes it. Returns the outcome of the line, which is out of memory if there is no memory for
-// what it asks for.
+// Builds the answer to this line, which has this number, before which this number of events had happened, and
+// then writes it and flushes it. Returns the outcome of the line, which is out of memory if there is no
+// memory for what it shows.
 pub(crate) fn put_answer<W: Write>(
     alloc: Global,
     form: Form,
@@ -38,6 +39,7 @@ pub(crate) fn put_answer<W: Write>(
     bench: &Option<Bench>,
     before: usize,
     number: u64,
+    line: &[u8],
     outcome: Outcome,
 ) -> Result<Outcome, Failure>
     ensures told { (form ≡ Json → IsTracedIn before bench.now) → IfOk result (λ told. HasAnswered form number
@@ -47,7 +49,7 @@ pub(crate) fn put_answer<W: Write>(
     ensures host { IfErr result (λ failure. exit_of failure ≡ Exit.Host) }
 {
     let mut text = Vec::new(alloc);
-    match put_in(alloc, form, &mut text, bench, before, number, outcome) {
+    match put_in(alloc, form, &mut text, bench, before, number, line, outcome) {
         Ok(told) => match put_out(out, &text) {
             Ok(()) => Ok(told),
             Err(failure) => Err(failure),
@@ -65,6 +67,7 @@ fn put_in<W: Write>(
     bench: &Option<Bench>,
     before: usize,
     number: u64,
+    line: &[u8],
     outcome: Outcome,
 ) -> Result<Outcome, Failure>
     ensures { (form ≡ Json → IsTracedIn before bench.now) → IfOk result (λ told. HasAnswered form number
@@ -73,7 +76,7 @@ fn put_in<W: Write>(
     let Some(objects) = objects_of(bench, before) else {
         return Err(Failure::Memory);
     };
-    let (told, shown) = take_shown(alloc, bench, outcome);
+    let (told, shown) = take_shown(alloc, bench, line, outcome);
     match put_by_form(form, out, bench, before, number, told, objects, &shown) {
         Ok(()) => Ok(told),
         Err(failure) => Err(failure),
@@ -241,6 +244,8 @@ fn put_told<W: Write>(
         Outcome::Done => Ok(()),
         Outcome::Table => put_shown(out, shown, b""),
         Outcome::Peek(_) | Outcome::Explain => put_line(out, shown),
+        Outcome::Help => put_bytes(out, HELP.as_bytes()),
+        Outcome::Named(_) => put_named(out, number, shown),
         Outcome::Fault(_) | Outcome::Boot(_) | Outcome::Host(_) => put_fault(out, number, outcome),
     }
 }
@@ -263,6 +268,17 @@ fn put_shown<W: Write>(out: &mut W, shown: &Option<Vec<u8>>, none: &[u8]) -> Res
         None => put_bytes(out, none),
         Some(text) => put_bytes(out, text),
     }
+}
+
+// Writes why the line by names with this number wasn't done.
+#[tactic(auto, unfolding(crate::specs::Outcome::named_fault_text))]
+fn put_named<W: Write>(out: &mut W, number: u64, shown: &Option<Vec<u8>>) -> Result<(), Failure>
+    ensures { OnOk result (Appends (W.contents out.old) (W.contents out.new) (named_fault_text number
+        (unwrap_or (option_map (λ text. text.items) shown.now) []))) }
+{
+    put_number(out, b"fault: line ", number, b": ")?;
+    put_shown(out, shown, b"")?;
+    put_bytes(out, b"\n")
 }
 
 // Writes why the line with this number wasn't done.

@@ -7,7 +7,8 @@ ghost use Rattle.hv_script.specs.declared.script.TheConstants.{MOST_BYTES as MOS
 ghost use Rattle.hv_serve.specs.Bench.{HasBecome, HasTaken, IsBench, IsOutcomeOf, StandsFor, reads};
 ghost use Rattle.hv_serve.specs.Bench.{kept_in, words_say};
 ghost use Rattle.hv_serve.specs.Input.{AreKept};
-ghost use Rattle.hv_serve.specs.Meant.{meant};
+ghost use Rattle.hv_asm.specs.Line.{line_of as line_meant};
+ghost use Rattle.hv_serve.specs.Meant.{meant, meant_as, meant_by};
 ghost use Rattle.hv_serve.specs.Session.{AreTraced, Served, history_of, read_of};
 ghost use Rattle.hv_serve.specs.Traced.{IsTracedIn};
 ghost use Rattle.hv_serve.specs.declared.form.Form.TheVariants.{Json};
@@ -18,12 +19,13 @@ ghost use Rattle.hv_threads.specs.Acted.{HasTried};
 ghost use Rattle.std.specs.declared.alloc.Global.{Global as GlobalValue};
 
 use crate::form::{Form, Place};
-use crate::outcome::{Outcome, outcome_of, refused_boot};
+use crate::outcome::{Outcome, misnamed, outcome_of, refused_boot};
 use crate::request::Request;
 use crate::traced::{Trace, act_traced};
+use hv_asm::push_line;
 use hv_history::{HostRefused, Kept};
 use hv_policy::{Action, Caller};
-use hv_script::{CutLine, FaultKind, action, admit, processor, read_boot};
+use hv_script::{CutLine, FaultKind, MOST_BYTES, action, admit, processor, read_boot};
 use hv_threads::act;
 use std::alloc::Global;
 
@@ -48,13 +50,46 @@ pub(crate) fn take_line(
 ) -> Outcome
     ensures comes { (before : Option Served) (bytes : List ℕ) → StandsFor bench.old before
         → All (λ byte. byte ≢ 10) bytes → AreKept bytes line.now lost
-        → HasBecome before (meant (read_of before) bytes) result bench.new }
+        → HasBecome before (meant_by at.names (read_of before) bytes) result bench.new }
     ensures traced { at.form ≡ Json → IsTracedIn (length (history_of (kept_in bench.old))) bench.new }
 {
     match lost {
         Some(kind) => outcome_of(Err(kind)),
+        None if at.names => named_line(alloc, at, bench, line),
         None => outcome_of(do_line(alloc, at, bench, line)),
     }
+}
+
+// Does what a line asks for that may be by names.
+#[tactic(auto, using(crate::proofs::Tracing::untraced))]
+fn named_line(alloc: Global, at: Place, bench: &mut Option<Bench>, text: &[u8]) -> Outcome
+    ensures comes { (before : Option Served) → StandsFor bench.old before → All (λ byte. byte ≢ 10) text.now
+        → HasBecome before (meant_as (read_of before) (line_meant text.now)) result bench.new }
+    ensures traced { at.form ≡ Json → IsTracedIn (length (history_of (kept_in bench.old))) bench.new }
+{
+    let mut plain = Vec::new(alloc);
+    match push_line(&mut plain, text) {
+        Ok(()) => outcome_of(plain_line(alloc, at, bench, &plain)),
+        Err(fault) => misnamed(fault),
+    }
+}
+
+// Does what a line of any length asks for.
+#[tactic(auto, using(crate::proofs::Tracing::untraced))]
+fn plain_line(
+    alloc: Global,
+    at: Place,
+    bench: &mut Option<Bench>,
+    text: &[u8],
+) -> Result<Outcome, FaultKind>
+    ensures taken { (before : Option Served) → StandsFor bench.old before → All (λ byte. byte ≢ 10) text.now
+        → HasTaken before (meant (read_of before) text.now) bench.new result }
+    ensures traced { at.form ≡ Json → IsTracedIn (length (history_of (kept_in bench.old))) bench.new }
+{
+    if text.len() > MOST_BYTES {
+        return Err(FaultKind::Long);
+    }
+    do_line(alloc, at, bench, text)
 }
 
 // Does what a line asks for.

@@ -9,10 +9,11 @@ pub enum Form {
     Json,
 }
 
-// Which line it is, and the form of its answer.
+// Which line it is, the form of its answer, and whether it may be by names.
 #[derive(Clone, Copy)]
 pub(crate) struct Place {
     pub(crate) form: Form,
+    pub(crate) names: bool,
     // Lines count from 1.
     pub(crate) number: u64,
 }

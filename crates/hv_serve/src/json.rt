@@ -10,9 +10,11 @@ ghost use Rattle.hv_serve.specs.Bench.{kept_in};
 ghost use Rattle.hv_serve.specs.Json.{all_escaped, elements, escaped, events_value, fault_value, separated};
 ghost use Rattle.hv_serve.specs.Json.{object_text, shown_member, string_of, text_value};
 ghost use Rattle.hv_serve.specs.Session.{history_of};
+ghost use Rattle.hv_serve.specs.declared.help.TheConstants.{HELP as HelpText};
 
 use crate::answer::{put_bytes, put_number};
 use crate::bench::Bench;
+use crate::help::HELP;
 use crate::outcome::Outcome;
 use hv_history::{EntryRef, Kept};
 use hv_run::Failure;
@@ -38,7 +40,7 @@ pub(crate) fn put_object<W: Write>(
     put_events(out, bench, before)?;
     put_trace(out, objects)?;
     put_bytes(out, b"],\"fault\":")?;
-    put_why(out, outcome)?;
+    put_why(out, outcome, shown)?;
     put_shown(out, outcome, shown)?;
     put_bytes(out, b"}\n")
 }
@@ -127,16 +129,17 @@ fn separated(byte: u8) -> u8
 }
 
 // Writes why the line wasn't done, or `null`.
-fn put_why<W: Write>(out: &mut W, outcome: Outcome) -> Result<(), Failure>
-    ensures { OnOk result (Appends (W.contents out.old) (W.contents out.new) (fault_value outcome)) }
+fn put_why<W: Write>(out: &mut W, outcome: Outcome, shown: &Option<Vec<u8>>) -> Result<(), Failure>
+    ensures { OnOk result (Appends (W.contents out.old) (W.contents out.new) (fault_value outcome
+        (option_map (λ text. text.items) shown.now))) }
 {
     match outcome {
-        Outcome::Done | Outcome::Table | Outcome::Peek(_) | Outcome::Explain => {
-            put_bytes(out, b"null")
-        }
+        Outcome::Done | Outcome::Table | Outcome::Peek(_) | Outcome::Explain | Outcome::Help =>
+            put_bytes(out, b"null"),
         Outcome::Fault(_) | Outcome::Boot(_) | Outcome::Host(_) => {
             put_string(out, outcome.text().as_bytes())
         }
+        Outcome::Named(_) => put_value(out, shown),
     }
 }
 
@@ -150,10 +153,15 @@ fn put_shown<W: Write>(
         (shown_member outcome (option_map (λ text. text.items) shown.now))) }
 {
     match outcome {
-        Outcome::Done | Outcome::Fault(_) | Outcome::Boot(_) | Outcome::Host(_) => Ok(()),
+        Outcome::Done
+        | Outcome::Fault(_)
+        | Outcome::Named(_)
+        | Outcome::Boot(_)
+        | Outcome::Host(_) => Ok(()),
         Outcome::Table => put_member(out, b",\"table\":", shown),
         Outcome::Peek(_) => put_member(out, b",\"peek\":", shown),
         Outcome::Explain => put_member(out, b",\"explain\":", shown),
+        Outcome::Help => put_help(out),
     }
 }
 
@@ -163,10 +171,27 @@ fn put_member<W: Write>(out: &mut W, name: &[u8], shown: &Option<Vec<u8>>) -> Re
         (name.now ++ text_value (option_map (λ text. text.items) shown.now))) }
 {
     put_bytes(out, name)?;
+    put_value(out, shown)
+}
+
+// Writes a text as a value, which is `null` without a text.
+fn put_value<W: Write>(out: &mut W, shown: &Option<Vec<u8>>) -> Result<(), Failure>
+    ensures { OnOk result (Appends (W.contents out.old) (W.contents out.new)
+        (text_value (option_map (λ text. text.items) shown.now))) }
+{
     match shown {
         None => put_bytes(out, b"null"),
         Some(text) => put_string(out, text),
     }
+}
+
+// Writes the member for help.
+fn put_help<W: Write>(out: &mut W) -> Result<(), Failure>
+    ensures { OnOk result (Appends (W.contents out.old) (W.contents out.new)
+        (codes ",\"help\":" ++ string_of HelpText.now)) }
+{
+    put_bytes(out, b",\"help\":")?;
+    put_string(out, HELP.as_bytes())
 }
 
 // Writes a text as a string.

@@ -1,10 +1,11 @@
 //! A session: the lines of the script's language, each answered before the next is read.
 //!
 //! [`serve`] reads lines from a reader and writes the answers to a writer, flushed line by line. A line means
-//! what it means in a script. The answer to an action is its lines of the audit. Three more lines ask for
-//! something: `table` for the table of partitions, `peek` for a look at a processor, and `explain` for the
-//! last event in words. The answer to a line that has a fault, or that the host refuses, is one line that
-//! says why. In JSON each answer is one line, and has for each event also the object that a trace has.
+//! what it means in a script. If it is by names, it means what the line means that `hv_asm` makes of it. The
+//! answer to an action is its lines of the audit. Four more lines ask for something: `table` for the table of
+//! partitions, `peek` for a look at a processor, `explain` for the last event in words, and `help` for what a
+//! session takes. The answer to a line that has a fault, or that the host refuses, is one line that says why.
+//! In JSON each answer is one line, and has for each event also the object that a trace has.
 //! `specs/Session.antt` and `specs/Json.antt` define the answers. [`a_session_is_a_serial_run`] says that the
 //! answers to the lines without fault are the audit of a serial run of these lines as a script.
 #![tactic(auto)]
@@ -12,6 +13,7 @@
 mod answer;
 mod bench;
 mod form;
+mod help;
 mod input;
 mod json;
 mod laws;

@@ -1,8 +1,10 @@
 // The outcome of a line.
 ghost use Rattle.std.specs.Prelude.{◌≡◌, MatchResult};
-ghost use Rattle.hv_serve.specs.Outcome.{kind_text, outcome_by, outcome_of_boot, why_text};
+ghost use Rattle.hv_serve.specs.Outcome.{kind_text, named_text, outcome_by, outcome_by_names};
+ghost use Rattle.hv_serve.specs.Outcome.{outcome_of_boot, why_text};
 
 use crate::peek::Peek;
+use hv_asm::AsmFault;
 use hv_history::HostRefused;
 use hv_machine::BootRefused;
 use hv_script::FaultKind;
@@ -18,8 +20,12 @@ pub enum Outcome {
     Peek(Peek),
     /// It asked for the explanation of the last event.
     Explain,
+    /// It asked for help.
+    Help,
     /// It has a fault. Nothing changed.
     Fault(FaultKind),
+    /// It is by names, and has a fault. Nothing changed.
+    Named(AsmFault),
     /// A machine with its configuration does not boot. Nothing changed.
     Boot(BootRefused),
     /// The host refused its action, or the rest of it.
@@ -32,8 +38,10 @@ impl Outcome {
         ensures { result.now ≡ why_text self }
     {
         match self {
-            Outcome::Done | Outcome::Table | Outcome::Peek(_) | Outcome::Explain => "",
+            Outcome::Done | Outcome::Table | Outcome::Peek(_) | Outcome::Explain | Outcome::Help =>
+                "",
             Outcome::Fault(kind) => fault_text(kind),
+            Outcome::Named(fault) => named_text(fault),
             Outcome::Boot(BootRefused::Pages) => "boot refused: pages",
             Outcome::Boot(BootRefused::Pool) => "boot refused: pool",
             Outcome::Boot(BootRefused::Vps) => "boot refused: vps",
@@ -63,6 +71,19 @@ fn fault_text(kind: FaultKind) -> &'static str
     }
 }
 
+// Returns the text of a fault of a line by names, as `asm` tells it.
+pub(crate) fn named_text(fault: AsmFault) -> &'static str
+    ensures { result.now ≡ named_text fault }
+{
+    match fault {
+        AsmFault::Script(kind) => fault_text(kind),
+        AsmFault::UnknownField => "unknown field",
+        AsmFault::MissingField => "missing field",
+        AsmFault::FieldTwice => "field twice",
+        AsmFault::NoFastForm => "no fast form",
+    }
+}
+
 // Converts the result of a line to its outcome. Out of memory is the host's refusal, not the line's fault.
 pub(crate) fn outcome_of(came: Result<Outcome, FaultKind>) -> Outcome
     ensures { MatchResult came (λ outcome. result ≡ outcome) (λ kind. result ≡ outcome_by kind) }
@@ -71,6 +92,16 @@ pub(crate) fn outcome_of(came: Result<Outcome, FaultKind>) -> Outcome
         Ok(outcome) => outcome,
         Err(FaultKind::Memory) => Outcome::Host(HostRefused::Memory),
         Err(kind) => Outcome::Fault(kind),
+    }
+}
+
+// Returns the outcome of a line by names that has a fault. Out of memory is the host's refusal.
+pub(crate) fn misnamed(fault: AsmFault) -> Outcome
+    ensures { result ≡ outcome_by_names fault }
+{
+    match fault {
+        AsmFault::Script(FaultKind::Memory) => Outcome::Host(HostRefused::Memory),
+        _ => Outcome::Named(fault),
     }
 }
 

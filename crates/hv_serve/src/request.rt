@@ -4,7 +4,7 @@ ghost use Rattle.std.specs.Prelude.{is_some, length};
 ghost use Rattle.hv_script.specs.Script.{SoFar};
 ghost use Rattle.hv_script.specs.declared.fault.FaultKind.TheVariants.{Count};
 ghost use Rattle.hv_serve.specs.Bench.{AsksFor};
-ghost use Rattle.hv_serve.specs.Meant.{asked, request_line, request_of};
+ghost use Rattle.hv_serve.specs.Meant.{asked, needs_boot, request_line, request_of};
 
 use crate::outcome::Outcome;
 use crate::peek::read_peek;
@@ -17,6 +17,7 @@ pub(crate) enum Request {
     Table,
     Peek,
     Explain,
+    Help,
 }
 
 impl Request {
@@ -33,22 +34,35 @@ impl Request {
         if line.begins_with(b"explain".as_slice()) {
             return Some(Request::Explain);
         }
+        if line.begins_with(b"help".as_slice()) {
+            return Some(Request::Help);
+        }
         None
     }
 
-    // Reads the line. It asks for something once a machine is booted.
+    // Reads the line. But for help, it asks for something once a machine is booted.
     pub(crate) fn read(self, booted: bool, line: &CutLine<'_>) -> Result<Outcome, FaultKind>
         ensures { (before : Option (SoFar Global)) → booted ≡ is_some before → MatchResult result
             (λ outcome. AsksFor outcome (request_line self before line.now))
             (λ kind. request_line self before line.now ≡ Err kind) }
     {
-        if !booted {
+        if !booted && self.needs_boot() {
             return Err(FaultKind::NoBoot);
         }
-        self.read_booted(line)
+        self.read_words(line)
     }
 
-    fn read_booted(self, line: &CutLine<'_>) -> Result<Outcome, FaultKind>
+    // Returns whether it is about a machine.
+    fn needs_boot(self) -> bool
+        ensures { result ≡ needs_boot self }
+    {
+        match self {
+            Request::Table | Request::Peek | Request::Explain => true,
+            Request::Help => false,
+        }
+    }
+
+    fn read_words(self, line: &CutLine<'_>) -> Result<Outcome, FaultKind>
         ensures { MatchResult result (λ outcome. AsksFor outcome (asked self line.now))
             (λ kind. asked self line.now ≡ Err kind) }
     {
@@ -56,6 +70,7 @@ impl Request {
             Request::Table => alone(line, Outcome::Table),
             Request::Peek => Ok(Outcome::Peek(read_peek(line)?)),
             Request::Explain => alone(line, Outcome::Explain),
+            Request::Help => alone(line, Outcome::Help),
         }
     }
 }

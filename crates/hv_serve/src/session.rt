@@ -14,7 +14,7 @@ use hv_run::{Exit, Failure, tell};
 use std::alloc::Global;
 use std::io::{BufReader, Read, Write};
 
-/// Serves the lines of a reader until it ends, with answers in this form.
+/// Serves the lines of a reader until it ends, with answers in this form. With `names` they may be by names.
 ///
 /// For each line it does what the line asks for, writes the answer and flushes it, and only then reads the
 /// next line. At the end it writes the number of events, as an audit ends. If it ends early, it writes the
@@ -30,17 +30,18 @@ pub fn serve<R: Read + Drop, W: Write, E: Write>(
     alloc: Global,
     reader: R,
     form: Form,
+    names: bool,
     out: &mut W,
     err: &mut E,
 ) -> Exit
-    ensures served { result ≡ Exit.Done → HasServed form (R.remaining reader) (W.contents out.old)
+    ensures served { result ≡ Exit.Done → HasServed form names (R.remaining reader) (W.contents out.old)
         (W.contents out.new) }
-    ensures failed { result ≢ Exit.Done → HasServedPart form result (R.remaining reader)
+    ensures failed { result ≢ Exit.Done → HasServedPart form names result (R.remaining reader)
         (W.contents out.old) (W.contents out.new) }
     ensures no_usage { result ≢ Exit.Usage }
 {
     match BufReader::new(alloc, reader) {
-        Ok(mut reader) => match serve_lines(alloc, &mut reader, form, out) {
+        Ok(mut reader) => match serve_lines(alloc, &mut reader, form, names, out) {
             Ok(()) => Exit::Done,
             Err(failure) => tell(failure, err),
         },
@@ -53,18 +54,21 @@ fn serve_lines<R: Read, W: Write>(
     alloc: Global,
     reader: &mut R,
     form: Form,
+    names: bool,
     out: &mut W,
 ) -> Result<(), Failure>
-    ensures served { OnOk result (HasServed form (R.remaining reader.old) (W.contents out.old)
+    ensures served { OnOk result (HasServed form names (R.remaining reader.old) (W.contents out.old)
         (W.contents out.new)) }
-    ensures failed { IfErr result (λ failure. HasServedPart form (exit_of failure)
+    ensures failed { IfErr result (λ failure. HasServedPart form names (exit_of failure)
         (R.remaining reader.old) (W.contents out.old) (W.contents out.new)) }
 {
     put_greeting(out, form)?;
     let mut bench = None;
     let mut line = Vec::new(alloc);
     for number in 1..u64::MAX {
-        if serve_line(alloc, &mut bench, &mut line, number, reader, form, out)? {
+        if serve_line(
+            alloc, &mut bench, &mut line, number, reader, form, names, out,
+        )? {
             return put_end(alloc, out, form, &bench);
         }
     }
@@ -79,22 +83,28 @@ fn serve_line<R: Read, W: Write>(
     number: u64,
     reader: &mut R,
     form: Form,
+    names: bool,
     out: &mut W,
 ) -> Result<bool, Failure>
     ensures turned { (before : Option Served) → StandsFor bench.old before → IfOk result (λ last.
-        HasTurned form number before last bench.new (R.remaining reader.old) (R.remaining reader.new)
+        HasTurned form names number before last bench.new (R.remaining reader.old) (R.remaining reader.new)
         (W.contents out.old) (W.contents out.new)) }
     ensures failed { (before : Option Served) → StandsFor bench.old before → IfErr result (λ failure.
-        HasFailed form number before failure (R.remaining reader.old) (W.contents out.old)
+        HasFailed form names number before failure (R.remaining reader.old) (W.contents out.old)
         (W.contents out.new)) }
 {
     let end = read_line(reader, line)?;
     let before = events_of(bench);
-    let outcome = take_line(alloc, Place { form, number }, bench, line, end.lost);
+    let at = Place {
+        form,
+        names,
+        number,
+    };
+    let outcome = take_line(alloc, at, bench, line, end.lost);
     if is_silent(form, end, line) {
         return Ok(end.last);
     }
-    put_answer(alloc, form, out, bench, before, number, outcome)?;
+    put_answer(alloc, form, out, bench, before, number, line, outcome)?;
     Ok(end.last)
 }
 

@@ -14,7 +14,7 @@ mod files;
 use crate::files::{Source, read_both, read_source, read_text};
 use hv_asm::{asm_text, assemble};
 use hv_check::{check_json, check_text};
-use hv_draw::{Choice, Only, draw_text, sequence_text};
+use hv_draw::{Choice, Only, sequence_text, state_text};
 use hv_explain::{explain_text, follow_text};
 use hv_options::{Command, Options, Usage, command};
 use hv_run::{Exit, Failure, run_text, tell, tell_usage};
@@ -38,7 +38,7 @@ const NO_VP: &str = "error: the ID of --only is neither a partition's ID nor a p
 
 const NO_ORDER: &str = "error: --perfetto takes no AUDIT";
 
-const NO_CHART: &str = "error: AUDIT, --from and --only need --sequence";
+const NO_CHART: &str = "error: --from needs --sequence";
 
 // How `draw` is used.
 const DRAW: &str = "draw [OPTIONS] <SCRIPT> [AUDIT]";
@@ -164,9 +164,9 @@ fn perform<R: Files + Input + AllocGlobal + Threads + Wait + Sync, W: Write, E: 
             audit,
             names,
         } => report_named(rt, Source::new(script, *names), *audit, out, err),
-        Command::Serve { json } => {
+        Command::Serve { json, names } => {
             let form = if *json { Form::Json } else { Form::Text };
-            serve(rt.alloc(), rt.reader(), form, out, err)
+            serve(rt.alloc(), rt.reader(), form, *names, out, err)
         }
         Command::Draw {
             script,
@@ -180,10 +180,10 @@ fn perform<R: Files + Input + AllocGlobal + Threads + Wait + Sync, W: Write, E: 
             let source = Source::new(script, *names);
             if *sequence {
                 chart_named(rt, source, *audit, (*from, *to, *only), out, err)
-            } else if audit.is_some() || from.is_some() || only.is_some() {
+            } else if from.is_some() {
                 refuse(NO_CHART, DRAW, err)
             } else {
-                draw_named(rt, source, *to, out, err)
+                draw_named(rt, source, *audit, (*to, *only), out, err)
             }
         }
         Command::Asm { file } => asm_named(rt, file, out, err),
@@ -431,24 +431,38 @@ fn asm_named<R: Files + Input + AllocGlobal, W: Write, E: Write>(
     }
 }
 
-// Draws the final state of a script, or the state after this number of events.
+// Draws the final state of a script, or of an audit of it, or the state after this number of events: all of
+// it, or what the words choose.
 fn draw_named<R: Files + Input + AllocGlobal, W: Write, E: Write>(
     rt: &R,
     source: Source<'_>,
-    to: Option<&str>,
+    audit: Option<&str>,
+    (to, only): (Option<&str>, Option<&str>),
     out: &mut W,
     err: &mut E,
 ) -> Exit {
-    let to = match to {
-        Some(word) => match number_in(word) {
-            Some(number) => Some(number),
-            None => return refuse(NO_NUMBER, DRAW, err),
-        },
-        None => None,
-    };
-    match read_source(rt, source, err) {
-        Ok(script) => {
-            let exit = draw_text(rt.alloc(), &script, to, out, err);
+    match choice_in((None, to, only)) {
+        Ok(Choice { to, only, .. }) => state_named(rt, source, audit, (to, only), out, err),
+        Err(why) => refuse(why, DRAW, err),
+    }
+}
+
+// Draws a state of a script, or of an audit of it, after at most this number of events.
+fn state_named<R: Files + Input + AllocGlobal, W: Write, E: Write>(
+    rt: &R,
+    source: Source<'_>,
+    audit: Option<&str>,
+    (to, only): (u64, Option<Only>),
+    out: &mut W,
+    err: &mut E,
+) -> Exit {
+    match read_some(rt, source, audit, DRAW, err) {
+        Ok((script, audit)) => {
+            let to = Some(to);
+            let exit = match audit {
+                Some(audit) => state_text(rt.alloc(), &script, Some(&audit), to, only, out, err),
+                None => state_text(rt.alloc(), &script, None, to, only, out, err),
+            };
             with_hint(rt.alloc(), source, &script, exit, err)
         }
         Err(exit) => exit,

@@ -1,6 +1,6 @@
 // A script of two phases beside audits of it, one for each answer.
 
-use hv_check::check_text;
+use hv_check::{OwnLine, check_text};
 use hv_run::Exit;
 use std::alloc::Global;
 use std::process::Abort;
@@ -306,6 +306,12 @@ fn last_lines(rt: HostRuntime) -> Result<(), Fail> {
         assert_eq!(rt; (told, text_of(&out), text_of(&err)), (*exit, *text, ""));
     }
     Ok(())
+}
+
+// Before an event, the policy's line is empty.
+#[test]
+fn own_lines(rt: HostRuntime) {
+    assert!(rt; OwnLine::new().as_slice().is_empty());
 }
 
 // A rep call of three pages, in a script with a limit of two events.

@@ -26,7 +26,7 @@ fn assert_shown_as<R: Read + Drop>(
 ) {
     let mut out = Flushed::new(alloc);
     let mut err: Vec<u8> = Vec::new(alloc);
-    let exit = serve(alloc, reader, form, &mut out, &mut err);
+    let exit = serve(alloc, reader, form, false, &mut out, &mut err);
     assert_eq!(rt; (exit, text_of(&out.bytes), text_of(&err)), wanted);
 }
 
@@ -34,6 +34,11 @@ const SESSION: &[u8] = b"boot 32 12 1 0x000000f700000044 9\n1.0 call 0x46 0 0 -"
 
 const ANSWERS: &str =
     "1 1.0 call 0000000000000046 ok 0000000000000000 0100000000000000\nevents 1\n";
+
+// A session whose last line is cut off, and the answers to the lines before.
+const CUT: &[u8] = b"boot 32 12 1 0x000000f700000044 9\n1.0 call 0x46 0 0 -\n1.0 int";
+
+const FIRST_ANSWERS: &str = "1 1.0 call 0000000000000046 ok 0000000000000000 0100000000000000\n";
 
 // The last line may lack its line feed. A carriage return is a bad byte.
 #[test]
@@ -132,15 +137,30 @@ impl Read for Pieces<'_> {
 #[test]
 fn failed_input(rt: HostRuntime) {
     let alloc = rt.alloc();
-    for (then, wanted) in [
-        (None, (Exit::Done, ANSWERS, "")),
-        (Some(ErrorKind::Interrupted), (Exit::Done, ANSWERS, "")),
+    let unreadable = "hvpm: cannot read the script\n";
+    for (left, then, wanted) in [
+        (SESSION, None, (Exit::Done, ANSWERS, "")),
         (
+            SESSION,
+            Some(ErrorKind::Interrupted),
+            (Exit::Done, ANSWERS, ""),
+        ),
+        (
+            SESSION,
             Some(ErrorKind::BrokenPipe),
-            (Exit::Script, "", "hvpm: cannot read the script\n"),
+            (Exit::Script, "", unreadable),
+        ),
+        (
+            CUT,
+            Some(ErrorKind::BrokenPipe),
+            (Exit::Script, FIRST_ANSWERS, unreadable),
+        ),
+        (
+            CUT,
+            Some(ErrorKind::OutOfMemory),
+            (Exit::Host, FIRST_ANSWERS, "hvpm: memory\n"),
         ),
     ] {
-        let left = SESSION;
         assert_shown(&rt, alloc, Pieces { left, then }, wanted);
     }
 }
@@ -172,7 +192,7 @@ fn failed_output(rt: HostRuntime) {
         for writes in 0..most {
             let mut out = Failing { writes };
             let mut err: Vec<u8> = Vec::new(rt.alloc());
-            let exit = serve(rt.alloc(), SESSION, form, &mut out, &mut err);
+            let exit = serve(rt.alloc(), SESSION, form, false, &mut out, &mut err);
             assert_eq!(rt; (exit, text_of(&err)), (Exit::Host, "hvpm: write\n"));
         }
     }

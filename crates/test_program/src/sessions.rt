@@ -76,7 +76,7 @@ pub fn serve_rows(rt: &impl Abort, alloc: Global, form: Form, rows: &[(&str, &st
     }
     let mut out = Flushed::new(alloc);
     let mut err: Vec<u8> = Vec::new(alloc);
-    let exit = serve(alloc, text.as_slice(), form, &mut out, &mut err);
+    let exit = serve(alloc, text.as_slice(), form, false, &mut out, &mut err);
     assert_eq!(rt; (exit, text_of(&err)), (Exit::Done, ""));
     out
 }

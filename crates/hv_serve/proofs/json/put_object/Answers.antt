@@ -21,7 +21,7 @@ returns g c =
     let events : List ℕ = events_value (c.args.before + 1) (drop c.args.before (history_of (kept_in c.args.bench.now))) in
     let trace : List ℕ = codes "],\"trace\":[" ++ elements c.args.objects.now in
     let fault : List ℕ = codes "],\"fault\":" in
-    let why : List ℕ = fault_value c.args.outcome in
+    let why : List ℕ = fault_value c.args.outcome (option_map (λ text. text.items) c.args.shown.now) in
     let shown : List ℕ = shown_member c.args.outcome (option_map (λ text. text.items) c.args.shown.now) in
     on_ok_weaker c.put_bytes-2.result
     (Appends-trans first seventh (g.W.Write.contents c.put_bytes-2.new.out) (head ++ events ++ trace ++ fault ++ why ++ shown) (codes "}\n")

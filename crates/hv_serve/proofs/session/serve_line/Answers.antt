@@ -18,7 +18,7 @@ returns-then-is_silent-clause-turned g c =
     let out = g.W.Write.contents c.args.out.now in
     let objects = objects_by c.args.form c.events_of-before.result c.take_line-outcome.new.bench
     (λ json. subst (λ (n : ℕ). IsTracedIn n c.take_line-outcome.new.bench) (sym c.events_of-before.ensures) (c.take_line-outcome.ensures.traced json)) in
-    λ before stands. turned c.args.form c.args.number c.events_of-before.result before c.args.bench.now c.take_line-outcome.new.bench c.read_line.new.line.items c.in_ok-end.end
+    λ before stands. turned c.args.form c.args.names c.args.number c.events_of-before.result before c.args.bench.now c.take_line-outcome.new.bench c.read_line.new.line.items c.in_ok-end.end
     (g.R.Read.remaining c.args.reader.now) (g.R.Read.remaining c.read_line.new.reader) out out
     c.take_line-outcome.result c.take_line-outcome.result objects.0 [] true stands came (sym c.if-is_silent.true ∙ c.is_silent.ensures came.bytes kept-2)
     (c.take_line-outcome.ensures.comes before came.bytes stands came.one kept)
@@ -32,7 +32,7 @@ returns-clause-turned g c =
     let kept-2 = subst (λ (line : List ℕ). AreKept came.bytes line lost) (sym c.deref-2.ensures.value) came.kept_are in
     let told = c.in_ok-put_answer.ensures.told
     (λ json. subst (λ (n : ℕ). IsTracedIn n c.take_line-outcome.new.bench) (sym c.events_of-before.ensures) (c.take_line-outcome.ensures.traced json)) in
-    λ before stands. turned c.args.form c.args.number c.events_of-before.result before c.args.bench.now c.take_line-outcome.new.bench c.read_line.new.line.items c.in_ok-end.end
+    λ before stands. turned c.args.form c.args.names c.args.number c.events_of-before.result before c.args.bench.now c.take_line-outcome.new.bench c.read_line.new.line.items c.in_ok-end.end
     (g.R.Read.remaining c.args.reader.now) (g.R.Read.remaining c.read_line.new.reader) (g.W.Write.contents c.args.out.now) (g.W.Write.contents c.put_answer.new.out)
     c.take_line-outcome.result c.in_ok-put_answer.field-0 told.objects told.words false stands came (sym c.if-is_silent.false ∙ c.is_silent.ensures came.bytes kept-2)
     (c.take_line-outcome.ensures.comes before came.bytes stands came.one kept) c.events_of-before.ensures told.told_as told.traced told.plain told.wrote
@@ -54,7 +54,7 @@ returns-in_err-put_answer-clause-failed g c =
     rw (p.1, p.2)
     (λ before stands. inr (
       c.in_err-put_answer.ensures.host,
-      turned_part c.args.form c.args.number c.events_of-before.result before c.args.bench.now c.take_line-outcome.new.bench c.read_line.new.line.items c.in_ok-end.end
+      turned_part c.args.form c.args.names c.args.number c.events_of-before.result before c.args.bench.now c.take_line-outcome.new.bench c.read_line.new.line.items c.in_ok-end.end
           (g.R.Read.remaining c.args.reader.now) (g.R.Read.remaining c.read_line.new.reader) (g.W.Write.contents c.args.out.now) (g.W.Write.contents c.put_answer.new.out)
           c.take_line-outcome.result stands came (sym c.if-is_silent.false ∙ c.is_silent.ensures came.bytes kept-2) (c.take_line-outcome.ensures.comes before came.bytes stands came.one kept)
           c.events_of-before.ensures part,
