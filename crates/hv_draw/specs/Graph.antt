@@ -1,8 +1,9 @@
 -- The text of a graph.
 use Rattle.std.specs.Prelude.{ℕ, ◌≡◌, ◌==◌, List, [], ◌∷◌, ◌++◌, length, codes, decimal, Option, None, Some}
 use Rattle.std.specs.Prelude.{if◌then◌else◌, nat_lt}
-use Rattle.std.specs.FinMap.{entries}
+use Rattle.std.specs.FinMap.{get}
 use Rattle.std.specs.FinSet as set
+use Rattle.std.specs.Option.{option_map_or}
 use Rattle.hv_defs.specs.declared.life.Life.{Life}
 use Rattle.hv_defs.specs.declared.life.Life.TheVariants.{Created, Active, Finalized}
 use Rattle.hv_partition.specs.Partition.{PartitionState, in_use}
@@ -94,8 +95,14 @@ pub record HasBlock (tree : Rows PartitionState) (e : ℕ × Row PartitionState)
     pub block : IsBlock tree e own
     pub added : new ≡ old ++ own
 
--- the text gains the block of each partition of a tree, by rising id
-pub record HasBlocks (tree : Rows PartitionState) (old new : List ℕ) : Type 0 where
+-- the text gains the blocks of these partitions
+pub record HasBlocks (tree : Rows PartitionState) (rows : List (ℕ × Row PartitionState)) (old new : List ℕ) :
+    Type 0 where
   pub own : List ℕ
-  pub blocks : AreBlocks tree (entries tree) own
+  pub blocks : AreBlocks tree rows own
   pub added : new ≡ old ++ own
+
+-- the rows with these ids, in this order
+abbrev pub rows_in : Rows PartitionState → List ℕ → List (ℕ × Row PartitionState)
+rows_in tree [] = []
+rows_in tree (id ∷ ids) = option_map_or (λ row. (id, row) ∷ rows_in tree ids) (get tree id) (rows_in tree ids)

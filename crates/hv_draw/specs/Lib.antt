@@ -1,4 +1,5 @@
 pub mod Choice
+pub mod Chosen
 pub mod Drawn
 pub mod Graph
 pub mod Head

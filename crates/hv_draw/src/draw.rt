@@ -1,16 +1,25 @@
-// Drawing a script, from its bytes to the exit status.
-ghost use Rattle.std.specs.Prelude.{◌≡◌, ◌≢◌, IfErr, IfOk, IsOk, None, OnOk};
+// Drawing a state of a script, from the bytes of its files to the exit status.
+ghost use Rattle.std.specs.Prelude.{◌≡◌, ◌≢◌, IfErr, IfNone, IfOk, IfSome, IsOk, None, OnOk, true};
 ghost use Rattle.std.specs.Io.KnownBytes.{Appends, Keeps};
+ghost use Rattle.hv_check.specs.Legal.{IsLegalOf};
+ghost use Rattle.hv_explain.specs.First.{AreFirst};
 ghost use Rattle.hv_history.specs.Kept.{IsRun};
 ghost use Rattle.hv_policy.specs.BootFault.{boot_fault};
 ghost use Rattle.hv_run.specs.Failure.{CanRun, exit_of};
 ghost use Rattle.hv_run.specs.Written.{HasPart};
 ghost use Rattle.hv_script.specs.Reading.{said};
-ghost use Rattle.hv_draw.specs.Drawn.{HasDrawn, HasDrawnOf, HasDrawnPart, HasGraph, IsGraph};
+ghost use Rattle.hv_draw.specs.Drawn.{HasDrawnOf, HasDrawnPart, HasPicture, HasState, HasStateOf};
+ghost use Rattle.hv_draw.specs.Drawn.{HasStatePart, IsGraph, IsPicture};
+ghost use Rattle.hv_draw.specs.Sequence.{IsTaken};
 
+use crate::audit::draw_audit;
+use crate::choice::Only;
+use crate::folded::is_crowd;
 use crate::graph::{push_blocks, push_end, push_head};
+use crate::inside::View;
 use crate::links::push_links;
 use crate::made::made_ports;
+use crate::only::chosen_graph;
 use crate::silent::Silent;
 use crate::text::push;
 use hv_explain::explain_lines;
@@ -40,8 +49,60 @@ pub fn draw_text<W: Write, E: Write>(
     ensures faulty { result ≡ Exit.Script → CanRun script.now → ⊥ }
     ensures no_usage { result ≢ Exit.Usage }
 {
+    draw_lines(alloc, script, at, None, out, err)
+}
+
+/// Writes a state of a script, or of an audit of it, as a graph for Graphviz to `out`.
+///
+/// Without an audit the state is that of [`draw_text`]. With an audit it is the state after the audit's
+/// events, in its order, or after its first `at` events. If the audit isn't legal, `out` gets only the first
+/// line that isn't, as a check prints it.
+///
+/// With `only` the graph has the chosen partition and those above it, up to the root, and a note that counts
+/// what it leaves out: `IsChosenGraph` of `specs/Chosen.antt`.
+pub fn state_text<W: Write, E: Write>(
+    alloc: Global,
+    script: &[u8],
+    audit: Option<&[u8]>,
+    at: Option<u64>,
+    only: Option<Only>,
+    out: &mut W,
+    err: &mut E,
+) -> Exit
+    ensures drawn { result ≡ Exit.Done → HasStateOf script.now audit.entry at only
+        (W.contents out.old) (W.contents out.new) }
+    ensures part { IsTaken script.now audit.entry → HasStatePart only
+        (W.contents out.old) (W.contents out.new) }
+    ensures illegal { IfSome audit.entry (λ audit. result ≡ Exit.Script
+        → IsLegalOf true true script.now audit.now → ⊥) }
+    ensures silent { IfNone audit.entry (result ≡ Exit.Script → out.new ≡ out.old) }
+    ensures faulty { IfNone audit.entry (result ≡ Exit.Script → CanRun script.now → ⊥) }
+    ensures no_usage { result ≢ Exit.Usage }
+{
+    match audit {
+        None => draw_lines(alloc, script, at, only, out, err),
+        Some(audit) => draw_audit(alloc, script, audit, at, only, out, err),
+    }
+}
+
+// Draws a state of a script that runs in order.
+fn draw_lines<W: Write, E: Write>(
+    alloc: Global,
+    script: &[u8],
+    at: Option<u64>,
+    only: Option<Only>,
+    out: &mut W,
+    err: &mut E,
+) -> Exit
+    ensures drawn { result ≡ Exit.Done → HasStateOf script.now None at only
+        (W.contents out.old) (W.contents out.new) }
+    ensures part { HasStatePart only (W.contents out.old) (W.contents out.new) }
+    ensures silent { result ≡ Exit.Script → out.new ≡ out.old }
+    ensures faulty { result ≡ Exit.Script → CanRun script.now → ⊥ }
+    ensures no_usage { result ≢ Exit.Usage }
+{
     match parse(alloc, script) {
-        Ok(script) => draw_or_tell(alloc, script, at, out, err),
+        Ok(script) => draw_or_tell(alloc, script, at, only, out, err),
         Err(fault) => tell(Failure::from(fault), err),
     }
 }
@@ -51,16 +112,18 @@ fn draw_or_tell<W: Write, E: Write>(
     alloc: Global,
     script: Script<Global>,
     at: Option<u64>,
+    only: Option<Only>,
     out: &mut W,
     err: &mut E,
 ) -> Exit
-    ensures drawn { result ≡ Exit.Done → HasDrawn (said script) at (W.contents out.old) (W.contents out.new) }
-    ensures part { HasDrawnPart (W.contents out.old) (W.contents out.new) }
+    ensures drawn { result ≡ Exit.Done → HasState (said script) (AreFirst at script.lines.items) only
+        (W.contents out.old) (W.contents out.new) }
+    ensures part { HasStatePart only (W.contents out.old) (W.contents out.new) }
     ensures silent { result ≡ Exit.Script → out.new ≡ out.old }
     ensures faulty { result ≡ Exit.Script → boot_fault script.config ≡ None → ⊥ }
     ensures no_usage { result ≢ Exit.Usage }
 {
-    match draw_script(alloc, script, at, out) {
+    match draw_script(alloc, script, at, only, out) {
         Ok(()) => Exit::Done,
         Err(failure) => tell(failure, err),
     }
@@ -71,10 +134,13 @@ fn draw_script<W: Write>(
     alloc: Global,
     script: Script<Global>,
     at: Option<u64>,
+    only: Option<Only>,
     out: &mut W,
 ) -> Result<(), Failure>
-    ensures drawn { OnOk result (HasDrawn (said script) at (W.contents out.old) (W.contents out.new)) }
-    ensures part { HasDrawnPart (W.contents out.old) (W.contents out.new) }
+    ensures drawn { OnOk result
+        (HasState (said script) (AreFirst at script.lines.items) only
+        (W.contents out.old) (W.contents out.new)) }
+    ensures part { HasStatePart only (W.contents out.old) (W.contents out.new) }
     ensures silent { IfErr result (λ failure. exit_of failure ≡ Exit.Script → out.new ≡ out.old) }
     ensures faulty { IfErr result (λ failure. exit_of failure ≡ Exit.Script
         → boot_fault script.config ≡ None → ⊥) }
@@ -94,7 +160,7 @@ fn draw_script<W: Write>(
         &mut Silent {},
         &mut nothing,
     );
-    let drawn = write_graph(alloc, &kept, out);
+    let drawn = write_graph(alloc, &kept, only, out);
     ended(ran, drawn)
 }
 
@@ -113,16 +179,21 @@ fn ended(ran: Result<(), Failure>, drawn: Result<(), Failure>) -> Result<(), Fai
     }
 }
 
-// Writes the graph of the machine.
-fn write_graph<W: Write>(alloc: Global, kept: &Kept<Global>, out: &mut W) -> Result<(), Failure>
-    ensures graph { OnOk result (HasGraph kept.now (W.contents out.old) (W.contents out.new)) }
-    ensures part { HasDrawnPart (W.contents out.old) (W.contents out.new) }
+/// Writes the graph of the machine, or that of a choice.
+pub(crate) fn write_graph<W: Write>(
+    alloc: Global,
+    kept: &Kept<Global>,
+    only: Option<Only>,
+    out: &mut W,
+) -> Result<(), Failure>
+    ensures graph { OnOk result (HasPicture only kept.now (W.contents out.old) (W.contents out.new)) }
+    ensures part { HasStatePart only (W.contents out.old) (W.contents out.new) }
     ensures run { IsRun kept.now }
     ensures host { IfErr result (λ failure. exit_of failure ≡ Exit.Host) }
 {
     // Proof: the history is a run.
     let _history = kept.history();
-    match graph(alloc, kept) {
+    match picture(alloc, kept, only) {
         Ok(text) => put(&text, out),
         Err(_) => Err(Failure::Memory),
     }
@@ -150,6 +221,16 @@ fn flush<W: Write>(out: &mut W) -> Result<(), Failure>
     }
 }
 
+// Returns the graph of the machine, or that of a choice.
+fn picture(alloc: Global, kept: &Kept<Global>, only: Option<Only>) -> Result<Vec<u8>, AllocError>
+    ensures { IfOk result (λ text. IsPicture only kept.now text.items) }
+{
+    match only {
+        None => graph(alloc, kept),
+        Some(only) => chosen_graph(alloc, kept, only),
+    }
+}
+
 // Returns the graph of the machine.
 fn graph(alloc: Global, kept: &Kept<Global>) -> Result<Vec<u8>, AllocError>
     ensures { IfOk result (λ text. IsGraph kept.now text.items) }
@@ -161,8 +242,17 @@ fn graph(alloc: Global, kept: &Kept<Global>) -> Result<Vec<u8>, AllocError>
     push_links(&mut links, tree, &ids)?;
     let mut text = Vec::new(alloc);
     push_head(&mut text, ids.len())?;
-    push_blocks(&mut text, tree, &ids, &made)?;
+    push_blocks(&mut text, tree, &ids, &made, view_of(ids.len()))?;
     push(&mut text, &links)?;
     push_end(&mut text, kept.history().len() as u64)?;
     Ok(text)
+}
+
+// Returns what the graph of so many partitions has inside each of them.
+fn view_of(partitions: usize) -> View {
+    if is_crowd(partitions) {
+        View::Crowd
+    } else {
+        View::Whole
+    }
 }

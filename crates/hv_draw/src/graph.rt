@@ -1,15 +1,14 @@
 // The whole graph.
-ghost use Rattle.std.specs.Prelude.{◌≡◌, ◌++◌, IsSome, OnOk, Some};
+ghost use Rattle.std.specs.Prelude.{◌≡◌, ◌++◌, All, IsSome, OnOk, Some};
 ghost use Rattle.std.specs.FinMap as map;
 ghost use Rattle.hv_partition.specs.Partition.{PartitionState};
 ghost use Rattle.hv_tree.specs.Rows.{Row};
 ghost use Rattle.hv_draw.specs.Graph.{HasBlock, HasBlocks, color_text, direction_text, edge_text};
 ghost use Rattle.hv_draw.specs.Graph.{end_text, events_text, fill_text, head_text, name_text, opening_text};
-ghost use Rattle.hv_draw.specs.Graph.{pages_text, rank_text, use_text};
+ghost use Rattle.hv_draw.specs.Graph.{pages_text, rank_text, rows_in, use_text};
 ghost use Rattle.hv_text.specs.Table.{life_text};
 
-use crate::folded::is_crowd;
-use crate::inside::push_inside;
+use crate::inside::{View, push_inside};
 use crate::made::MadePort;
 use crate::text::{push, push_hex_64, push_number};
 use hv_admit::Partitions;
@@ -63,19 +62,20 @@ fn events_word(events: u64) -> &'static [u8]
     if events == 1 { b" event" } else { b" events" }
 }
 
-/// Adds the block of each partition. These ids are those of all partitions.
+/// Adds the block of each partition with one of these ids, with what the view has inside.
 pub(crate) fn push_blocks(
     text: &mut Vec<u8>,
     tree: &Partitions<Global>,
     ids: &[u64],
     made: &[MadePort],
+    view: View,
 ) -> Result<(), AllocError>
-    requires { ids.now ≡ map.keys tree.now }
-    ensures { OnOk result (HasBlocks tree.now text.old.items text.new.items) }
+    requires { All (λ id. IsSome (map.get tree.now id)) ids.now }
+    ensures { OnOk result (HasBlocks tree.now (rows_in tree.now ids.now) text.old.items text.new.items) }
 {
     for id in ids {
         let mut inside = Vec::new(*text.allocator());
-        push_inside(&mut inside, tree, *id, made, is_crowd(ids.len()))?;
+        push_inside(&mut inside, tree, *id, made, view)?;
         push_block(text, tree, *id, &inside)?;
     }
     Ok(())

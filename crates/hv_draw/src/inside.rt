@@ -1,10 +1,12 @@
 // The contents of a partition's cluster after the partition's node: its virtual processors and its ports.
-// `crate::folded` has those of which a graph shows too many.
+// `crate::folded` has those of which a graph shows too many, and `crate::shown` those of a choice.
 ghost use Rattle.std.specs.Prelude.{◌<◌};
 ghost use Rattle.hv_draw.specs.declared.inside.TheConstants.{SINTS};
 
+use crate::choice::Only;
 use crate::folded::{are_folded, push_folded_ports, push_folded_vps, push_vps_name};
 use crate::made::MadePort;
+use crate::shown::push_shown;
 use crate::text::{push, push_number};
 use hv_admit::Partitions;
 use hv_defs::{Aim, PortKind};
@@ -23,32 +25,58 @@ pub const SINTS: u8 = 16;
 // The most numbers in a line of a label.
 const IN_LINE: usize = 16;
 
-/// Adds the nodes of the processors and the ports of the partition with this id, if it exists. In a crowd
-/// the graph has many partitions.
+/// Which processors and ports a graph has.
+#[derive(Clone, Copy)]
+pub(crate) enum View {
+    /// All of them.
+    Whole,
+    /// All of them, with few nodes, since the graph has many partitions.
+    Crowd,
+    /// Those of a choice.
+    Only(Only),
+}
+
+/// Adds the nodes of the processors and the ports of the partition with this id, if it exists.
 pub(crate) fn push_inside(
     text: &mut Vec<u8>,
     tree: &Partitions<Global>,
     id: u64,
     made: &[MadePort],
-    crowd: bool,
+    view: View,
 ) -> Result<(), AllocError> {
     let Some(partition) = tree.get(id) else {
         return Ok(());
     };
-    if are_folded(partition, crowd) {
-        push_folded_vps(text, id, partition, made)?;
-    } else {
-        push_vps(text, id, partition, made)?;
-    }
-    if crowd {
-        push_folded_ports(text, id, partition)
-    } else {
-        push_ports(text, id, partition)
+    match view {
+        View::Whole => {
+            push_vps(text, id, partition, made, false)?;
+            push_ports(text, id, partition)
+        }
+        View::Crowd => {
+            push_vps(text, id, partition, made, true)?;
+            push_folded_ports(text, id, partition)
+        }
+        View::Only(only) => push_shown(text, tree, id, partition, made, only),
     }
 }
 
-// Adds the nodes of a partition's processors.
-fn push_vps(
+/// Adds the nodes of a partition's processors, in a crowd of partitions or not.
+pub(crate) fn push_vps(
+    text: &mut Vec<u8>,
+    id: u64,
+    partition: &Partition<Global>,
+    made: &[MadePort],
+    crowd: bool,
+) -> Result<(), AllocError> {
+    if are_folded(partition, crowd) {
+        push_folded_vps(text, id, partition, made)
+    } else {
+        push_each_vp(text, id, partition, made)
+    }
+}
+
+// Adds a node for each of a partition's processors.
+fn push_each_vp(
     text: &mut Vec<u8>,
     id: u64,
     partition: &Partition<Global>,
@@ -66,8 +94,8 @@ fn push_vps(
     Ok(())
 }
 
-// Adds the node of a processor, and the line from its partition to it.
-fn push_vp(
+/// Adds the node of a processor, and the line from its partition to it.
+pub(crate) fn push_vp(
     text: &mut Vec<u8>,
     by: Caller,
     vp: &Vp<Global>,
@@ -232,16 +260,37 @@ fn push_ports(
     id: u64,
     partition: &Partition<Global>,
 ) -> Result<(), AllocError> {
+    let folded = are_folded(partition, false);
     for place in 0..partition.port_count() {
         if let Some((number, port)) = partition.port_at(place) {
-            push_port(text, id, number, partition, &port)?;
+            push_port(text, id, number, partition, &port, folded)?;
         }
     }
     Ok(())
 }
 
-// Adds the node of a port, and the edge to the processor at which it aims.
-fn push_port(
+/// Adds the node of a port, and the edge to the processor at which it aims. All processors have one node, or
+/// each its own.
+pub(crate) fn push_port(
+    text: &mut Vec<u8>,
+    id: u64,
+    number: u32,
+    partition: &Partition<Global>,
+    port: &Port,
+    folded: bool,
+) -> Result<(), AllocError> {
+    push_port_node(text, id, number, partition, port)?;
+    match port.vp {
+        Aim::One(vp) if partition.vp(vp).is_some() => {
+            let at = Caller { part: id, vp };
+            push_aim(text, at, number, folded)
+        }
+        Aim::One(_) | Aim::Any => Ok(()),
+    }
+}
+
+/// Adds the node of a port.
+pub(crate) fn push_port_node(
     text: &mut Vec<u8>,
     id: u64,
     number: u32,
@@ -258,14 +307,7 @@ fn push_port(
         PortKind::Message => push_message_port(text, number, partition, port)?,
         PortKind::Event => push_event_port(text, partition, port)?,
     }
-    push(text, b"\" style=rounded];\n")?;
-    match port.vp {
-        Aim::One(vp) if partition.vp(vp).is_some() => {
-            let at = Caller { part: id, vp };
-            push_aim(text, at, number, are_folded(partition, false))
-        }
-        Aim::One(_) | Aim::Any => Ok(()),
-    }
+    push(text, b"\" style=rounded];\n")
 }
 
 /// Adds the name of a port's node.

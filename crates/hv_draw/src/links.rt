@@ -91,8 +91,8 @@ fn push_counts(text: &mut Vec<u8>, id: u64, counts: &IndexMap<u64, u64>) -> Resu
     Ok(())
 }
 
-// Adds the style of an edge for so many connections. Of one there is no label.
-fn push_connections(text: &mut Vec<u8>, number: u64) -> Result<(), AllocError> {
+/// Adds the style of an edge for so many connections. Of one there is no label.
+pub(crate) fn push_connections(text: &mut Vec<u8>, number: u64) -> Result<(), AllocError> {
     if number > 1 {
         push(text, b" [label=\"")?;
         push_number(text, number)?;
@@ -118,8 +118,8 @@ fn push_all_gone(text: &mut Vec<u8>, id: u64, number: u64) -> Result<(), AllocEr
     push_connections(text, number)
 }
 
-// Adds an edge and, if the port is gone, a node that says so.
-fn push_link(
+/// Adds an edge and, if the port is gone, a node that says so.
+pub(crate) fn push_link(
     text: &mut Vec<u8>,
     tree: &Partitions<Global>,
     part: u64,
@@ -151,8 +151,8 @@ fn kind_of(kind: PortKind) -> &'static [u8] {
     }
 }
 
-// Returns whether the connection's port exists, with the birth that the connection keeps.
-fn leads_to_port(tree: &Partitions<Global>, conn: Conn) -> bool {
+/// Returns whether the connection's port exists, with the birth that the connection keeps.
+pub(crate) fn leads_to_port(tree: &Partitions<Global>, conn: Conn) -> bool {
     match tree.get(conn.part) {
         Some(partition) => match partition.port(conn.port) {
             Some(port) => port.born == conn.born,

@@ -2,7 +2,7 @@
 
 use hv_history::next_of;
 use hv_policy::Reply;
-use hv_script::{Line, parse};
+use hv_script::{FaultKind, Line, parse};
 use std::alloc::{AllocError, Global};
 
 /// How many lines of a script are done, and which phases have ended. A phase begins when all lines of the
@@ -21,7 +21,10 @@ impl Phases {
     pub(crate) fn read(alloc: Global, script: &[u8]) -> Result<Phases, AllocError> {
         let ends = match parse(alloc, script) {
             Ok(script) => ends_of(alloc, script.lines.as_slice())?,
-            Err(_) => Vec::new(alloc),
+            Err(fault) => match fault.kind {
+                FaultKind::Memory => return Err(AllocError),
+                _ => Vec::new(alloc),
+            },
         };
         Ok(Phases {
             ends,

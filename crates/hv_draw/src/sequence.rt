@@ -157,8 +157,8 @@ fn put_rows<T: Teller, E: Write>(
     }
 }
 
-// Writes the verdict on an audit that isn't legal. A script with a fault has none.
-fn show_verdict<W: Write, E: Write>(
+/// Writes the verdict on an audit that isn't legal. A script with a fault has none.
+pub(crate) fn show_verdict<W: Write, E: Write>(
     audit: Option<&[u8]>,
     verdict: &[u8],
     out: &mut W,

@@ -3,4 +3,4 @@ use Rattle.hv_draw.proofs.Blocks.{AreSoFar}
 use Rattle.hv_draw.proofs.graph.push_blocks.Given as goal
 
 abbrev pub invariant-loop-id : goal.invariant-loop-id
-invariant-loop-id l = AreSoFar l.tree l.id-index l.initial.text.items l.text.items
+invariant-loop-id l = AreSoFar l.tree l.ids l.id-index l.initial.text.items l.text.items
