@@ -2,25 +2,13 @@
  * How long an event takes through the library, without and with its line of the audit.
  * Sourced by embed.sh.
  */
-#include "hvpm.h"
-
-#include <inttypes.h>
-#include <stdio.h>
-#include <string.h>
-#include <time.h>
+#include "bench.h"
 
 enum { TURNS = 20000, PAGES = 500 };
 
 static hvpm_machine machine = HVPM_EMPTY;
-static const hvpm_caller root = {1, 0};
-static hvpm_reply reply;
 static char line[HVPM_LINE];
 static size_t line_size;
-static bool failed;
-
-static void want(uint32_t status) {
-    if (status != HVPM_STATUS_OK || reply.kind > HVPM_REPLY_MORE) failed = true;
-}
 
 static void put_number(uint8_t *at, uint64_t value, size_t len) {
     for (size_t i = 0; i < len; i++) at[i] = (uint8_t)(value >> 8 * i);
@@ -29,8 +17,8 @@ static void put_number(uint8_t *at, uint64_t value, size_t len) {
 static void call(uint64_t rcx, uint64_t rdx, const void *input, size_t len) {
     hvpm_registers registers = {rcx, rdx, 0};
     do {
-        want(hvpm_hypercall(&machine, root, &registers, input, len, &reply, line_size ? line : NULL,
-                            line_size));
+        served(hvpm_hypercall(&machine, root, &registers, input, len, &reply, line_size ? line : NULL,
+                              line_size));
         registers.rcx = hvpm_next(registers.rcx, &reply);
     } while (reply.kind == HVPM_REPLY_MORE && !failed);
 }
@@ -55,8 +43,8 @@ static void pages(void) {
 }
 
 static void registers(void) {
-    want(hvpm_write_msr(&machine, root, 0x40000095, 0x30, &reply, line_size ? line : NULL, line_size));
-    want(hvpm_read_msr(&machine, root, 0x40000095, &reply, line_size ? line : NULL, line_size));
+    served(hvpm_write_msr(&machine, root, 0x40000095, 0x30, &reply, line_size ? line : NULL, line_size));
+    served(hvpm_read_msr(&machine, root, 0x40000095, &reply, line_size ? line : NULL, line_size));
 }
 
 /* Posts a message, reads and clears its slot, ends it, and takes its interrupt. */
@@ -64,24 +52,10 @@ static void messages(void) {
     static const uint8_t post[] = {5, 0, 0, 0, 0, 0, 0, 0, 1, 0, 0, 0, 5, 0, 0, 0, 'h', 'e', 'l', 'l', 'o'};
     char *const at = line_size ? line : NULL;
     call(0x5C, 0, post, sizeof post);
-    want(hvpm_read_slot(&machine, root, 2, &reply, at, line_size));
-    want(hvpm_clear_slot(&machine, root, 2, &reply, at, line_size));
-    want(hvpm_write_msr(&machine, root, 0x40000084, 0, &reply, at, line_size));
-    want(hvpm_take_interrupt(&machine, root, &reply, at, line_size));
-}
-
-/* Turns the root's interrupt controller on, and makes it a port with a connection. */
-static void set_up(void) {
-    uint8_t port[48] = {0}, connection[36] = {0};
-    for (uint32_t msr = 0x40000080; msr <= 0x40000083; msr++)
-        if (msr != 0x40000081) want(hvpm_write_msr(&machine, root, msr, 1, &reply, NULL, 0));
-    want(hvpm_write_msr(&machine, root, 0x40000092, 0x30, &reply, NULL, 0));
-    put_number(port, 1, 8), put_number(port + 8, 5, 4), put_number(port + 16, 1, 8);
-    put_number(port + 24, 1, 4), put_number(port + 32, 2, 4);
-    call(0x95, 0, port, sizeof port);
-    put_number(connection, 1, 8), put_number(connection + 8, 5, 4), put_number(connection + 16, 1, 8);
-    put_number(connection + 24, 5, 4), put_number(connection + 32, 1, 4);
-    call(0x96, 0, connection, sizeof connection);
+    served(hvpm_read_slot(&machine, root, 2, &reply, at, line_size));
+    served(hvpm_clear_slot(&machine, root, 2, &reply, at, line_size));
+    served(hvpm_write_msr(&machine, root, 0x40000084, 0, &reply, at, line_size));
+    served(hvpm_take_interrupt(&machine, root, &reply, at, line_size));
 }
 
 static const struct workload {
@@ -98,19 +72,17 @@ static const struct workload {
 
 /* Nanoseconds of processor time an event. */
 static double measure(const struct workload *workload) {
-    struct timespec start, end;
     const uint64_t before = machine.events;
-    clock_gettime(CLOCK_PROCESS_CPUTIME_ID, &start);
+    const double start = now();
     for (int i = 0; i < workload->turns && !failed; i++) workload->turn();
-    clock_gettime(CLOCK_PROCESS_CPUTIME_ID, &end);
-    const double taken = (double)(end.tv_sec - start.tv_sec) * 1e9 + (double)(end.tv_nsec - start.tv_nsec);
-    return taken / (double)(machine.events - before);
+    return (now() - start) / (double)(machine.events - before);
 }
 
 int main(void) {
     const hvpm_config config = {.mask = 0xf700000044, .pages = 2000, .pool = 1000, .vps = 1};
     if (hvpm_boot(&machine, &config) != HVPM_STATUS_OK) return 1;
-    set_up();
+    turn_on_root(&machine);
+    make_port(&machine, 5, 2);
     printf("%-44s %10s %10s\n", "ns an event, least of 5", "no line", "a line");
     for (size_t i = 0; i < sizeof workloads / sizeof *workloads; i++) {
         double least[2] = {1e9, 1e9};

@@ -5,23 +5,16 @@
  * nanoseconds of processor time. Run by embed.sh. The status is 1 where a heartbeat takes more than 8 calls,
  * or isn't answered.
  */
-#include "hvpm.h"
+#include "bench.h"
 
 static unsigned long long looks;
 #define hvpm_peek_slot(...) (looks++, hvpm_peek_slot(__VA_ARGS__))
 #define hvpm_peek_flags(...) (looks++, hvpm_peek_flags(__VA_ARGS__))
 #include "hvpm_pages.h"
 
-#include <inttypes.h>
-#include <stdio.h>
-#include <string.h>
-#include <time.h>
-
 enum { MOST = 64, SINT = 2, VECTOR = 0xF3, CALLS = 8, HEARTBEATS = 200000, PAGE = 4096 };
 
 static hvpm_machine machine = HVPM_EMPTY;
-static hvpm_reply reply;
-static bool failed;
 
 /* The root's processor, and then the guest's. Each has two pages, and the vector that was injected last. */
 static struct processor {
@@ -29,14 +22,6 @@ static struct processor {
     hvpm_pages pages;
     uint8_t injected;
 } processors[1 + MOST];
-
-static void want(bool is_so) {
-    if (!is_so) failed = true;
-}
-
-static void served(uint32_t status) {
-    want(status == HVPM_STATUS_OK && reply.kind <= HVPM_REPLY_MORE);
-}
 
 /*
  * A signal, what it changes of pages, and the vectors that it raises: at the
@@ -84,7 +69,6 @@ static void connect(hvpm_caller by, hvpm_caller from, hvpm_caller to, uint32_t i
 
 static void set_up(uint32_t vps) {
     const hvpm_config config = {.mask = 0xf700000064, .pages = 1024, .pool = 256, .vps = 1};
-    const hvpm_caller root = {1, 0};
     uint64_t guest = 0, pages[512];
     want(hvpm_boot(&machine, &config) == HVPM_STATUS_OK);
     served(hvpm_create_partition(&machine, root, 0, &guest, &reply, NULL, 0));
@@ -105,14 +89,12 @@ static void set_up(uint32_t vps) {
 }
 
 static void measure(uint32_t vps) {
-    struct timespec start, end;
     set_up(vps);
     looks = 0;
     const uint64_t before = machine.events;
-    clock_gettime(CLOCK_PROCESS_CPUTIME_ID, &start);
+    const double start = now();
     for (uint32_t i = 0; i < HEARTBEATS && !failed; i++) heartbeat(&processors[1 + i % vps], i % vps);
-    clock_gettime(CLOCK_PROCESS_CPUTIME_ID, &end);
-    const double taken = (double)(end.tv_sec - start.tv_sec) * 1e9 + (double)(end.tv_nsec - start.tv_nsec);
+    const double taken = now() - start;
     const uint64_t calls = machine.events - before + looks;
     printf("%10" PRIu32 " %20.1f %20.0f\n", vps, (double)calls / HEARTBEATS, taken / HEARTBEATS);
     want(calls <= (uint64_t)CALLS * HEARTBEATS);

@@ -3,32 +3,11 @@
  * its ports, and to find a page's owner among 14,000 partitions. Prints microseconds of processor time, the
  * least of five. Run by embed.sh. The status is 1 where a list lacks something.
  */
-#include "hvpm.h"
-
-#include <inttypes.h>
-#include <stdio.h>
-#include <time.h>
+#include "bench.h"
 
 enum { ALL = 65536, PAGES = 30000, PARTITIONS = 14000, PORTS = 10000, RUNS = 5 };
 
-static const hvpm_caller root = {1, 0};
 static hvpm_machine machine = HVPM_EMPTY;
-static hvpm_reply reply;
-static bool failed;
-
-static void want(bool is_so) {
-    if (!is_so) failed = true;
-}
-
-static void served(uint32_t status) {
-    want(status == HVPM_STATUS_OK && reply.kind <= HVPM_REPLY_MORE);
-}
-
-static double now(void) {
-    struct timespec at;
-    clock_gettime(CLOCK_PROCESS_CPUTIME_ID, &at);
-    return (double)at.tv_sec * 1e6 + (double)at.tv_nsec / 1e3;
-}
 
 static void boot(uint32_t pool) {
     const hvpm_config config = {.mask = 0xf700000065, .pages = ALL, .pool = pool, .vps = 1};
@@ -81,7 +60,7 @@ static void time_it(const char *what, uint64_t (*look)(uint64_t), uint64_t of, u
         const double took = now() - from;
         if (took < least) least = took;
     }
-    printf("%s: %.1f us\n", what, least);
+    printf("%s: %.1f us\n", what, least / 1e3);
 }
 
 int main(void) {

@@ -137,8 +137,15 @@ static void many_ports(void) {
 static void first_port(void) {
     make_ports(1, 1, 1, false);
 }
+static void last_port(void) {
+    make_ports(30002, 1, 1, false);
+}
 static void delete_first_port(void) {
     served(hvpm_delete_port(&machine, root, child, 2, TOLD));
+}
+
+static void delete_last_port(void) {
+    served(hvpm_delete_port(&machine, root, child, 30001, TOLD));
 }
 
 static void many_children(void) {
@@ -147,6 +154,10 @@ static void many_children(void) {
 }
 static void delete_first_child(void) {
     served(hvpm_delete_partition(&machine, root, 2, TOLD));
+}
+
+static void delete_last_child(void) {
+    served(hvpm_delete_partition(&machine, root, child, TOLD));
 }
 
 /* A child with 20,000 children of its own. */
@@ -182,8 +193,11 @@ static const struct kind {
     {"deletevp", full_queue, delete_vp},
     {"narrow", many_below, narrow},
     {"firstchild", many_children, delete_first_child},
+    {"lastchild", many_children, delete_last_child},
     {"createport", many_ports, first_port},
     {"deleteport", many_ports, delete_first_port},
+    {"createlastport", many_ports, last_port},
+    {"deletelastport", many_ports, delete_last_port},
     {"post", full_queue, post_one},
     {"eom", full_and_cleared, end_of_message},
     {"createvp", small, create_vp},

@@ -1,18 +1,13 @@
-# Sourced by the benchmarks: the program that they measure, the bytes of a number, and one measured run.
+# Sourced by the benchmarks: the program that they measure, and one measured run.
+
+root=$(cd -- "$(dirname -- "${BASH_SOURCE[0]}")/.." && pwd)
+folder=$(mktemp -d)
+trap 'rm -rf -- "$folder"' EXIT
 
 # HVPM where it is set, and else the repository's own program, which is proved and
 # built first where that isn't done.
 program=${HVPM:-$root/crates/hvpm/out/hvpm}
 [[ -n ${HVPM:-} ]] || "$root/bin/hvpm" --prove
-
-# The $2 bytes of the number $1, the lowest first.
-field() {
-    local number=$1 bytes=$2
-    for ((; bytes > 0; bytes--)); do
-        printf '%02x' $((number & 255))
-        number=$((number >> 8))
-    done
-}
 
 # The instructions of a run of the script $2 with the program $1, as valgrind counts them.
 # The status is 1 without valgrind.
@@ -41,4 +36,11 @@ measure() {
         head -n 1 -- "$2" >"$folder/first_line.hv"
         echo "instructions an event: $(((whole - $(instructions "$1" "$folder/first_line.hv")) / events))"
     fi
+}
+
+# Measures the script that bench/script prints at the words from $2 on, under a title.
+measure_script() {
+    "$root/bench/script" "${@:2}" >"$folder/script.hv"
+    echo "== ${1:+$1, }$(stat -c %s "$folder/script.hv") bytes"
+    measure "$program" "$folder/script.hv"
 }

@@ -5,23 +5,11 @@
  * The status is 1 if an event isn't served, or if the time beside the most messages is more than twice that
  * beside the fewest. Sourced by embed.sh.
  */
-#include "hvpm.h"
-
-#include <inttypes.h>
-#include <stdio.h>
-#include <string.h>
-#include <time.h>
+#include "bench.h"
 
 enum { TURNS = 5000, RUNS = 20, EACH = 8, OWN = 1 };
 
-static const hvpm_caller root = {1, 0};
 static hvpm_machine machines[4], *machine;
-static hvpm_reply reply;
-static bool failed;
-
-static void want(uint32_t status) {
-    if (status != HVPM_STATUS_OK || reply.kind > HVPM_REPLY_MORE) failed = true;
-}
 
 static void put_number(uint8_t *at, uint64_t value, size_t len) {
     for (size_t i = 0; i < len; i++) at[i] = (uint8_t)(value >> 8 * i);
@@ -29,18 +17,7 @@ static void put_number(uint8_t *at, uint64_t value, size_t len) {
 
 static void call(uint64_t rcx, const void *input, size_t len) {
     const hvpm_registers registers = {rcx, 0, 0};
-    want(hvpm_hypercall(machine, root, &registers, input, len, &reply, NULL, 0));
-}
-
-/* A port for messages at a SINT of the root's processor, and a connection to it of that id. */
-static void make_port(uint64_t id, uint64_t sint) {
-    uint8_t port[48] = {0}, connection[36] = {0};
-    put_number(port, 1, 8), put_number(port + 8, id, 4), put_number(port + 16, 1, 8);
-    put_number(port + 24, 1, 4), put_number(port + 32, sint, 4);
-    call(0x95, port, sizeof port);
-    put_number(connection, 1, 8), put_number(connection + 8, id, 4), put_number(connection + 16, 1, 8);
-    put_number(connection + 24, id, 4), put_number(connection + 32, 1, 4);
-    call(0x96, connection, sizeof connection);
+    served(hvpm_hypercall(machine, root, &registers, input, len, &reply, NULL, 0));
 }
 
 static void post(uint64_t id) {
@@ -91,28 +68,24 @@ static void fill(const struct choice *choice, uint64_t kept) {
     const hvpm_config config = {.mask = 0xf700000044, .pages = 65536, .pool = 60000, .vps = 1};
     *machine = (hvpm_machine)HVPM_EMPTY;
     if (hvpm_boot(machine, &config) != HVPM_STATUS_OK) failed = true;
-    for (uint32_t msr = 0x40000080; msr <= 0x40000083; msr++)
-        if (msr != 0x40000081) want(hvpm_write_msr(machine, root, msr, 1, &reply, NULL, 0));
-    want(hvpm_write_msr(machine, root, 0x40000092, 0x30, &reply, NULL, 0));
-    make_port(OWN, 2);
+    turn_on_root(machine);
+    make_port(machine, OWN, 2);
     for (uint64_t i = 0; i < kept / EACH && !failed; i++) {
         const uint64_t id = choice->id(i, kept / EACH);
-        make_port(id, 3 + i % 13);
+        make_port(machine, (uint32_t)id, 3 + i % 13);
         for (int turn = 0; turn < EACH; turn++) post(id);
     }
 }
 
 /* Nanoseconds of processor time of a turn: a post, the clearing of its slot, and the end of its message. */
 static double measure(void) {
-    struct timespec start, end;
-    clock_gettime(CLOCK_PROCESS_CPUTIME_ID, &start);
+    const double start = now();
     for (int i = 0; i < TURNS && !failed; i++) {
         post(OWN);
-        want(hvpm_clear_slot(machine, root, 2, &reply, NULL, 0));
-        want(hvpm_write_msr(machine, root, 0x40000084, 0, &reply, NULL, 0));
+        served(hvpm_clear_slot(machine, root, 2, &reply, NULL, 0));
+        served(hvpm_write_msr(machine, root, 0x40000084, 0, &reply, NULL, 0));
     }
-    clock_gettime(CLOCK_PROCESS_CPUTIME_ID, &end);
-    return ((double)(end.tv_sec - start.tv_sec) * 1e9 + (double)(end.tv_nsec - start.tv_nsec)) / TURNS;
+    return (now() - start) / TURNS;
 }
 
 int main(void) {

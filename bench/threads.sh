@@ -21,33 +21,13 @@ shift $(($# > 0 ? 1 : 0))
     echo "usage: bench/threads.sh [RUNS [WORD..]]" >&2
     exit 2
 }
-folder=$(mktemp -d)
-trap 'rm -rf -- "$folder"' EXIT
-
 source "$root/bench/measure.sh"
 
 processors=8
 turns=25
 events=5000
 
-# RAX to RFLAGS, and then the first five again.
-names=$(for ((i = 0; i < 23; i++)); do field $((0x20000 + i % 18)) 4; done)
-
-# One turn of a processor, 25 events: it writes RAX, asks for its partition's id, and reads 23 registers.
-turn() {
-    local block
-    block=$(field 1 8)$(field "$1" 8)
-    printf '1.%s call 0x0000000100000051 0 0 %s%s%s\n' "$1" "$block" "$(field 0x20000 16)" "$(field "$2" 16)"
-    printf '1.%s call 0x46 0 0 -\n' "$1"
-    printf '1.%s call 0x0000001700000050 0 0 %s%s\n' "$1" "$block" "$names"
-}
-
-{
-    echo "boot 64 32 $processors 0x000000f700000044 100000"
-    for ((t = 0; t < turns; t++)); do
-        for ((p = 0; p < processors; p++)); do turn "$p" $((1 + t * processors + p)); done
-    done
-} >"$folder/threads.hv"
+"$root/bench/script" threads "$processors" "$turns" >"$folder/threads.hv"
 
 # Runs the script, with further words, for 20 seconds at most. The audit, what was told and the status are
 # files, and the processor time is a line more of the file $1.
