@@ -45,16 +45,39 @@ def leave_out(why):
     print(f"left out: {why}")
 
 
-def in_parallel(test, cases):
-    """Runs a test on each of the cases, some at a time. One that ends by an exception has failed."""
+class Wrong(Exception):
+    """Ends a case at its first difference, and says which one that is."""
+
+
+def expect(what, found, wanted):
+    """Ends a case of `in_parallel` where what is found isn't what is wanted."""
+    if found != wanted:
+        raise Wrong(f"{what}: wanted {wanted!r}, found {found!r}")
+
+
+def in_parallel(test, cases, name=None):
+    """Runs a test on each of the cases, some at a time. One that ends by an exception has failed. Where `name` gives
+    the names of cases, one that ends without has passed; else the test counts by itself."""
     def ask(case):
+        what = name(case) if name else f"{case!r:.{SHOWN}}"
         try:
             test(case)
+        except Wrong as why:
+            holds(what, False, why)
         except Exception:
-            holds(f"{case!r:.{SHOWN}}", False, traceback.format_exc())
+            holds(what, False, traceback.format_exc())
+        else:
+            if name:
+                passed.append(what)
 
     with ThreadPoolExecutor(len(os.sched_getaffinity(0))) as pool:
         list(pool.map(ask, cases))
+
+
+def expand_suite(folder):
+    """Writes the suite's scripts to a folder, also those that programs make, and gives their paths."""
+    subprocess.run([ROOT / "conformance/run", "--expand", folder], check=True, stdout=subprocess.DEVNULL)
+    return sorted(Path(folder).rglob("*.hv"))
 
 
 def run(words, seconds=60, text="", **how):

@@ -1,4 +1,5 @@
 """What `hvpm check` says of an audit ("Check" in docs/PROGRAM.md)."""
+import json
 import re
 from collections import deque
 from typing import NamedTuple
@@ -24,7 +25,15 @@ class Verdict(NamedTuple):
             return status == 0 and said == f"legal, {self.events} events\n"
         texts = [f"line {self.line}: {text}\n" for text in self.texts]
         begins = tuple(text.partition(ANY)[0] for text in texts if ANY in text)
-        return status == 1 and (said in texts or said.startswith(begins))
+        is_printable = re.fullmatch(r"[ -~]*\n", said) is not None
+        return status == 1 and is_printable and (said in texts or said.startswith(begins))
+
+
+def as_json(said):
+    """What --json makes of what is said of an audit that isn't legal."""
+    line, wrong = re.fullmatch(r"line (\d+): (.*)\n", said).groups()
+    told = {"legal": False, "events": None, "line": int(line), "wrong": wrong}
+    return json.dumps(told, separators=(",", ":")) + "\n"
 
 
 def shown(line):
