@@ -265,8 +265,8 @@ partition 1 parent - Active mask 000000f700000044 loose 14 pooled 12 inuse 7 vps
 partition 2 parent 1 Active mask 0000003000000044 loose 0 pooled 6 inuse 5 vps 1 ports 1 connections 0
 pages 32
 ",
-    blocks: &[10, 3, 0, 0, 2, 0, 0, 0, 4, 1, 1, 0, 0, 0, 0, 0],
-    wants: &[0, 8, 9, 10],
+    blocks: &[10, 3, 0, 0, 2, 0, 0, 0, 4, 2, 2, 0, 1, 0, 0, 0],
+    wants: &[0, 8, 9, 10, 12],
 };
 
 // A message of 240 bytes is posted, after one of 241.
@@ -332,7 +332,7 @@ partition 1 parent - Active mask 000000f700000044 loose 14 pooled 12 inuse 7 vps
 partition 2 parent 1 Active mask 0000003000000044 loose 0 pooled 6 inuse 5 vps 1 ports 1 connections 0
 pages 32
 ",
-    blocks: &[10, 3, 0, 0, 2, 0, 0, 0, 4, 1, 1, 0, 0, 0, 0, 21, 2, 1, 0],
+    blocks: &[10, 3, 0, 0, 2, 0, 0, 0, 4, 2, 2, 0, 0, 0, 0, 21, 2, 1, 0],
     wants: &[0, 8, 9, 10, 15],
 };
 
